@@ -1,11 +1,12 @@
 -- Names: 1 to 8 ASCII letters or digits in 64 bits, the first byte most significant, zero bytes behind.
-use mathlib.Core.Path.{_≡_}
+use mathlib.Core.Path.{_≡_, refl, sym, _∙_}
 use mathlib.Core.Bool.{Bool, true, cond, _&&_, _||_}
 use mathlib.Core.List.{List, [], _∷_}
 use Prim.Native.Nat.{ℕ, _+_, _*_, _/_, _%_, _≤_, _<_}
 use lib.Dec.{leb, eqb}
 use lib.ListN.{length, getD}
 use Rattle.std.specs.shelf.Lists.{All}
+use borrow.Author.Tests.{eq-eqb, eqb-true}
 
 -- an ASCII letter or digit
 abbrev pub letterOrDigit : ℕ → Bool
@@ -38,3 +39,19 @@ upToZero (b ∷ bs) = cond (eqb b 0) [] (b ∷ upToZero bs)
 -- how a name is written
 abbrev pub nameBytes : ℕ → List ℕ
 nameBytes n = upToZero (bytesOf n)
+
+-- whether two names are one name; what is known of it are the three laws below
+unfoldable pub sameName : ℕ → ℕ → Bool
+sameName a b = eqb a b
+
+pub sameName-refl : (a : ℕ) → sameName a a ≡ true
+unfolding sameName
+sameName-refl a = eq-eqb a a refl
+
+pub sameName-sym : (a b : ℕ) → sameName a b ≡ true → sameName b a ≡ true
+unfolding sameName
+sameName-sym a b e = eq-eqb b a (sym (eqb-true a b e))
+
+pub sameName-trans : (a b c : ℕ) → sameName a b ≡ true → sameName b c ≡ true → sameName a c ≡ true
+unfolding sameName
+sameName-trans a b c d e = eq-eqb a c (eqb-true a b d ∙ eqb-true b c e)

@@ -10,6 +10,7 @@ mod rows;
 pub use hosts::Host;
 pub use hosts::row_at;
 pub use names::is_letter_or_digit;
+pub use names::same_name;
 pub use refusals::Refusal;
 pub use refusals::Rule;
 pub use rows::Row;
