@@ -1,3 +1,5 @@
+pub mod Bays
 pub mod Names
 pub mod Numbers
+pub mod Packing
 pub mod Tables

@@ -2,6 +2,7 @@
 use mathlib.Core.Path.{_≡_}
 use mathlib.Core.List.{List}
 use Prim.Native.Nat.{ℕ, _≤_, _<_}
+use native.Mathlib.Omega.{arith}
 use lib.IntN.{pos}
 use lib.ListN.{length, getD}
 use Rattle.std.specs.declared.result.Result.{Result}
@@ -26,3 +27,6 @@ Reads t p (Err e) = (length t ≤ p) × (e ≡ BeyondCapacity)
 abbrev pub Writes : List Row → ℕ → Result Unit Refusal → Type 0
 Writes t p (Ok u) = p < length t
 Writes t p (Err e) = (length t ≤ p) × (e ≡ BeyondCapacity)
+
+pub long-small : (t : List Row) → length t ≡ 255 → length t ≤ 255
+long-small t e = omega arith
