@@ -1,0 +1,55 @@
+-- The lines of a table, one place after another.
+use mathlib.Core.Path.{_≡_, refl, sym, ap, subst, _∙_}
+use mathlib.Core.Bool.{Bool, true, false, cond}
+use mathlib.Core.List.{List, [], _∷_, _++_, append-assoc}
+use Prim.Native.Nat.{ℕ, zero, suc, _+_, _*_, _≤_, _<_, min}
+use native.Mathlib.Omega.{arith}
+use lib.Dec.{eqb}
+use lib.ListN.{length, getD, take, drop, length-append, length-take}
+use Rattle.std.specs.Joined.{joined}
+use Rattle.std.proofs.shelf.Lists.{take-more, append-nil, take-append-drop, length-take-le, take-all}
+use Rattle.host.specs.Tables.{emptyRow, rowAt}
+use Rattle.host.specs.declared.rows.Row.{Row}
+use Rattle.table_text.specs.declared.lines.Line.{Line}
+use Rattle.table_text.specs.Lines.{lineText, rowText, linesOf, tableText}
+use Rattle.table_text.proofs.Joins.{joined-append}
+
+cond-append : {X : Type 0} (b : Bool) (x : X) (ys zs ws : List X) → ys ≡ zs ++ ws → cond b ys (x ∷ ys) ≡ cond b zs (x ∷ zs) ++ ws
+cond-append true x ys zs ws e = e
+cond-append false x ys zs ws e = ap (λ t. x ∷ t) e
+
+pub lines-append : (p : ℕ) (t u : List Row) → linesOf p (t ++ u) ≡ linesOf p t ++ linesOf (p + length t) u
+lines-append p [] u = ap (λ q. linesOf q u) (omega arith)
+lines-append p (r ∷ t) u =
+    let e : p + 1 + length t ≡ p + suc (length t) = omega arith in
+    cond-append (eqb (r .kind) 0) _ (linesOf (p + 1) (t ++ u)) (linesOf (p + 1) t) (linesOf (p + suc (length t)) u) (lines-append (p + 1) t u ∙ ap (λ q. linesOf (p + 1) t ++ linesOf q u) e)
+
+row-lines : (b : Bool) (l : Line) → joined lineText (cond b [] (l ∷ [])) ≡ cond b [] (lineText l)
+row-lines true l = refl
+row-lines false l = append-nil (lineText l)
+
+-- the text of one row more
+pub text-more : (t : List Row) (i : ℕ) → i < length t → tableText (take (i + 1) t) ≡ tableText (take i t) ++ rowText i (rowAt t i)
+text-more t i h =
+    let n : 0 + length (take i t) ≡ i = omega (arith, length-take-le i t (omega arith)) in
+    ap tableText (take-more t i emptyRow h)
+    ∙ ap (joined lineText) (lines-append 0 (take i t) (rowAt t i ∷ []) ∙ ap (λ q. linesOf 0 (take i t) ++ linesOf q (rowAt t i ∷ [])) n)
+    ∙ joined-append lineText (linesOf 0 (take i t)) (linesOf i (rowAt t i ∷ []))
+    ∙ ap (λ s. tableText (take i t) ++ s) (row-lines (eqb (rowAt t i .kind) 0) (record { place = i; row = rowAt t i }))
+
+-- the text of the first rows is a front of the whole
+pub text-front : (t : List Row) (i : ℕ) → length (tableText (take i t)) ≤ length (tableText t)
+text-front t i =
+    let e = sym (ap tableText (take-append-drop i t)) ∙ ap (joined lineText) (lines-append 0 (take i t) (drop i t)) ∙ joined-append lineText (linesOf 0 (take i t)) _ in
+    omega (arith, ap length e, length-append (tableText (take i t)) (joined lineText (linesOf (0 + length (take i t)) (drop i t))))
+
+pub text-all : (t : List Row) (i : ℕ) → length t ≤ i → tableText (take i t) ≡ tableText t
+text-all t i h = ap tableText (take-all i t h)
+
+-- a row's text, as spelled out in an array
+module _ (t : List Row) (i : ℕ) (h : i < length t) (bytes : List ℕ) (len : ℕ) (r : Row) (room : length bytes ≡ 162) (within : len ≤ 162) (spelt : take len bytes ≡ rowText i r) (same : r ≡ rowAt t i) where
+  pub row-spelt : take len bytes ≡ rowText i (rowAt t i)
+  row-spelt = spelt ∙ ap (rowText i) same
+
+  pub length-more : length (tableText (take (i + 1) t)) ≡ length (tableText (take i t)) + len
+  length-more = ap length (text-more t i h ∙ ap (λ s. tableText (take i t) ++ s) (sym row-spelt)) ∙ length-append (tableText (take i t)) (take len bytes) ∙ ap (λ n. length (tableText (take i t)) + n) (length-take-le len bytes (omega (arith, room, within)))
