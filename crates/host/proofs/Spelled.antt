@@ -17,8 +17,8 @@ use Rattle.std.proofs.shelf.Lists.{same-lists, length-take-le, getD-take, getD-
 use Rattle.std.proofs.shelf.Tests.{or-cases, and-parts, cond-true, cond-false, cases-lt}
 use Rattle.host.specs.Names.{letterOrDigit, NameForm, IsName, packed, bytesOf, upToZero, nameBytes}
 
--- a letter or digit is a byte above 0 and below 123
-pub plain-range : (b : ℕ) → letterOrDigit b ≡ true → (0 < b) × (b < 123)
+-- a letter or digit is a byte above 47 and below 123
+pub plain-range : (b : ℕ) → letterOrDigit b ≡ true → (47 < b) × (b < 123)
 plain-range b h =
     ⊎-elim
     (λ (p : (leb 48 b && leb b 57) ≡ true). let q = and-parts (leb 48 b) (leb b 57) p in (omega (arith, leb-true 48 b (q .0)), omega (arith, leb-true b 57 (q .1))))
@@ -83,7 +83,7 @@ unfolding eight
 length-eight bs = refl
 
 module _ (bs : List ℕ) (form : NameForm bs) where
-  at-range : (k : ℕ) → k < length bs → (0 < getD bs k 0) × (getD bs k 0 < 123)
+  at-range : (k : ℕ) → k < length bs → (47 < getD bs k 0) × (getD bs k 0 < 123)
   at-range k h = plain-range (getD bs k 0) (all-getD (λ b. letterOrDigit b ≡ true) bs k 0 h (form .plain))
 
   small : (k : ℕ) → getD bs k 0 < 256

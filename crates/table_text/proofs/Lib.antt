@@ -1,3 +1,6 @@
+pub mod Cuts
 pub mod Joins
 pub mod Spelling
+pub mod Splits
 pub mod Tables
+pub mod Unique
