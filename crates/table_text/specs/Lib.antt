@@ -1,4 +1,5 @@
 pub mod Keys
 pub mod Lines
+pub mod Marks
 pub mod Puts
 pub mod Texts

@@ -1,7 +1,12 @@
 // Table text: reading, writing, and the first wrong word.
 mod lines;
 mod numerals;
+mod reads;
+mod words;
 mod writes;
 
 pub use lines::Key;
 pub use lines::Line;
+pub use words::WrongWord;
+pub use words::wrong_word;
+pub use writes::write_table;

@@ -1,0 +1,18 @@
+-- A wrong word as it is handed out.
+use mathlib.Core.Path.{_≡_}
+use mathlib.Core.List.{List}
+use Prim.Native.Nat.{ℕ, _-_}
+use lib.ListN.{take, drop}
+use Rattle.table_text.specs.declared.words.WrongWord.{WrongWord}
+use Rattle.table_text.specs.Texts.{Stands, FirstWrong}
+
+-- w is the part of s from `at` up to `end`, with its line and byte
+pub record Marks (s : List ℕ) (at end : ℕ) (w : WrongWord) : Type 0 where
+  pub offset : w .at ≡ at
+  pub part : w .word .now ≡ take (end - at) (drop at s)
+  pub stands : Stands s at (w .line) (w .byte)
+
+-- w is the first wrong word of s as a table text, and where it says that it stands
+pub record WrongIn (s : List ℕ) (w : WrongWord) : Type 0 where
+  pub first : FirstWrong s (w .at) (w .word .now)
+  pub stands : Stands s (w .at) (w .line) (w .byte)

@@ -1,0 +1,55 @@
+ghost use mathlib.Core.Path.{_≡_};
+ghost use mathlib.Core.List.{_++_};
+ghost use Prim.Native.Nat.{ℕ, _+_, _≤_, _<_};
+ghost use lib.ListN.{length, take, drop};
+ghost use Rattle.std.specs.Options.{Cases as BySome};
+ghost use Rattle.table_text.specs.declared.lines.Line.{Line};
+ghost use Rattle.table_text.specs.Lines.{kindText, placeText, valueText, word};
+ghost use Rattle.table_text.specs.Keys.{Fits, before};
+use crate::lines::Key;
+use crate::lines::Line;
+use crate::numerals::natural_between;
+use crate::numerals::value_within;
+use host::NONE;
+use host::pack_name;
+
+fn kind_named(text: &[u8]) -> Option<u8>
+    ensures { λ r. ⌜ BySome r ((k : ℕ) → 0 < k → k ≤ 4 → now (text .entry) ≡ kindText k → ⊥) (λ k. (0 < k) × (k ≤ 4) × (now (text .entry) ≡ kindText k)) ⌝ }
+{
+    match text {
+        b"comp" => Some(1),
+        b"prov" => Some(2),
+        b"req" => Some(3),
+        b"par" => Some(4),
+        _ => None,
+    }
+}
+
+fn place_or_none(text: &[u8]) -> Option<u8>
+    ensures { λ r. ⌜ BySome r ((p : ℕ) → p ≤ 255 → now (text .entry) ≡ placeText p → ⊥) (λ p. (p ≤ 255) × (now (text .entry) ≡ placeText p)) ⌝ }
+{
+    match text {
+        b"none" => Some(NONE),
+        _ => natural_between(text, 0, 254),
+    }
+}
+
+// The line with what the text behind a key says put into it.
+fn take_value(line: Line, key: Key, text: &[u8], next: u8) -> Option<Line>
+    requires { ⌜ Fits next line ⌝ }
+    ensures { λ r. ⌜ BySome r ((l : Line) → Fits next l → now (text .entry) ≡ valueText key l → ⊥) (λ l. Fits next l × (now (text .entry) ≡ valueText key l) × (before l key ≡ before line key)) ⌝ }
+{
+    let mut taken = line;
+    match key {
+        Key::Place => taken.place = natural_between(text, next, 254)?,
+        Key::Kind => taken.row.kind = kind_named(text)?,
+        Key::Name => taken.row.name = pack_name(text)?,
+        Key::Owner => taken.row.owner = place_or_none(text)?,
+        Key::Link => taken.row.link = place_or_none(text)?,
+        Key::Up => taken.row.up = natural_between(text, 0, 1)? as u32,
+        Key::Lo => taken.row.lo = value_within(text)?,
+        Key::Hi => taken.row.hi = value_within(text)?,
+        Key::Value => taken.row.value = value_within(text)?,
+    }
+    Some(taken)
+}
