@@ -105,16 +105,16 @@ pub line-word : {next : ℕ} {l : Line} → Fits next l → (k : Key) → Word (
 unfolding word
 line-word {next} {l} f k = all-append (λ b. parts b ≡ false) (keyText k) (valueText k l) (key-word k) (value-word f k)
 
-pub ending-ends : (k : Key) (s : List ℕ) → Ended (ending k ∷ s)
-ending-ends Place s = refl
-ending-ends Kind s = refl
-ending-ends Name s = refl
-ending-ends Owner s = refl
-ending-ends Link s = refl
-ending-ends Up s = refl
-ending-ends Lo s = refl
-ending-ends Hi s = refl
-ending-ends Value s = refl
+pub ending-parts : (k : Key) → parts (ending k) ≡ true
+ending-parts Place = refl
+ending-parts Kind = refl
+ending-parts Name = refl
+ending-parts Owner = refl
+ending-parts Link = refl
+ending-parts Up = refl
+ending-parts Lo = refl
+ending-parts Hi = refl
+ending-parts Value = refl
 
 -- a word of a line, and what follows it
 pub word-on : (l : Line) (k : Key) (ks : List Key) (s : List ℕ) → joined (ended l) (k ∷ ks) ++ s ≡ word l k ++ (ending k ∷ (joined (ended l) ks ++ s))
@@ -124,7 +124,7 @@ module _ {n m : ℕ} {e l : Line} (fe : Fits n e) (fl : Fits m l) where
   -- two lines that begin one text have the same word there
   pub same-word : (k : Key) (ks js : List Key) (r s : List ℕ) → joined (ended e) (k ∷ ks) ++ r ≡ joined (ended l) (k ∷ js) ++ s → (word e k ≡ word l k) × (joined (ended e) ks ++ r ≡ joined (ended l) js ++ s)
   same-word k ks js r s q =
-      let c = cut (word e k) (word l k) _ _ (line-word fe k) (line-word fl k) (ending-ends k (joined (ended e) ks ++ r)) (ending-ends k (joined (ended l) js ++ s)) (sym (word-on e k ks r) ∙ q ∙ word-on l k js s) in
+      let c = cut (word e k) (word l k) _ _ (line-word fe k) (line-word fl k) (ending-parts k) (ending-parts k) (sym (word-on e k ks r) ∙ q ∙ word-on l k js s) in
       let t = c .1 in
       (c .0, cc)
 

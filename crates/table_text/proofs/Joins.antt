@@ -5,7 +5,7 @@ use Prim.Native.Nat.{ℕ, _+_, _-_, _≤_, _<_}
 use native.Mathlib.Omega.{arith}
 use lib.ListN.{length, getD, take, drop}
 use Rattle.std.specs.Joined.{joined}
-use Rattle.std.proofs.shelf.Lists.{take-more, append-nil, drop-drop}
+use Rattle.std.proofs.shelf.Lists.{take-more, append-nil, drop-drop, take-append-drop, take-take, drop-take}
 
 module _ {X A : Type 0} (f : X → List A) where
   pub joined-append : (xs ys : List X) → joined f (xs ++ ys) ≡ joined f xs ++ joined f ys
@@ -23,3 +23,9 @@ pub drop-further : {X : Type 0} (a n : ℕ) (xs ys : List X) → a ≤ n → dro
 drop-further a n xs ys h e =
     let z : a + (n - a) ≡ n = omega arith in
     ap (λ k. drop k xs) (sym z) ∙ sym (drop-drop (n - a) a xs) ∙ ap (drop (n - a)) e ∙ drop-drop (n - a) a ys ∙ ap (λ k. drop k ys) z
+
+-- a list up to one place, and from there to another
+pub take-split : {X : Type 0} (a e : ℕ) (xs : List X) → a ≤ e → take e xs ≡ take a xs ++ take (e - a) (drop a xs)
+take-split a e xs h =
+    let z : a + (e - a) ≡ e = omega arith in
+    sym (take-append-drop a (take e xs)) ∙ (λ i. take-take a e xs h i ++ (ap (λ k. drop a (take k xs)) (sym z) ∙ drop-take a (e - a) xs) i)

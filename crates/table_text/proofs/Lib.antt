@@ -6,3 +6,4 @@ pub mod Splits
 pub mod Tables
 pub mod Taken
 pub mod Unique
+pub mod Wrong

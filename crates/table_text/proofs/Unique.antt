@@ -27,7 +27,7 @@ use Rattle.table_text.specs.Lines.{kindText, placeText, keyText, valueText, en
 use Rattle.table_text.specs.Texts.{Word, Ended, Sayable}
 use Rattle.table_text.specs.Keys.{Fits, keysBefore, keysAfter, before}
 use Rattle.table_text.proofs.Joins.{joined-append}
-use Rattle.table_text.proofs.Cuts.{strip, same-word, digits, line-word, ending-ends, word-on}
+use Rattle.table_text.proofs.Cuts.{strip, same-word, digits, line-word, word-on}
 use Rattle.table_text.proofs.Spelling.{million-fits, one-number}
 
 -- the kind that a word of text says

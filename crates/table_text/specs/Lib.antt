@@ -2,4 +2,5 @@ pub mod Keys
 pub mod Lines
 pub mod Marks
 pub mod Puts
+pub mod Reading
 pub mod Texts

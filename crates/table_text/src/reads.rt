@@ -3,13 +3,17 @@ ghost use mathlib.Core.List.{_++_};
 ghost use Prim.Native.Nat.{ℕ, _+_, _≤_, _<_};
 ghost use lib.ListN.{length, take, drop};
 ghost use Rattle.std.specs.Options.{Cases as BySome};
+ghost use Rattle.std.specs.Results.{Cases as ByOk};
 ghost use Rattle.table_text.specs.declared.lines.Line.{Line};
-ghost use Rattle.table_text.specs.Lines.{kindText, placeText, valueText, word};
+ghost use Rattle.table_text.specs.Lines.{kindText, placeText, valueText, word, ended, lineText};
 ghost use Rattle.table_text.specs.Keys.{Fits, before};
+ghost use Rattle.table_text.specs.Reading.{WrongInLine};
 use crate::lines::Key;
 use crate::lines::Line;
 use crate::numerals::natural_between;
 use crate::numerals::value_within;
+use crate::words::Span;
+use crate::words::word_end;
 use host::NONE;
 use host::pack_name;
 
@@ -52,4 +56,39 @@ fn take_value(line: Line, key: Key, text: &[u8], next: u8) -> Option<Line>
         Key::Value => taken.row.value = value_within(text)?,
     }
     Some(taken)
+}
+
+// The line with what a word says put into it, where the word has this key.
+fn take_word(line: Line, key: Key, text: &[u8], next: u8) -> Option<Line>
+    requires { ⌜ Fits next line ⌝ }
+    ensures { λ r. ⌜ BySome r ((l : Line) → Fits next l → now (text .entry) ≡ word l key → ⊥) (λ l. Fits next l × (now (text .entry) ≡ word l key) × (before l key ≡ before line key)) ⌝ }
+{
+    match text.strip_prefix(key.text()) {
+        Some(value) => take_value(line, key, value, next),
+        None => None,
+    }
+}
+
+// Reads the word of a key, and what ends it, from `at` on.
+fn read_word(rest: &[u8], at: usize, line: Line, key: Key, next: u8) -> Result<(Line, usize), Span>
+    requires within { ⌜ at ≤ length (now rest) ⌝ }
+    requires fits { ⌜ Fits next line ⌝ }
+    requires begun { ⌜ take at (now rest) ≡ before line key ⌝ }
+    ensures { λ r. ⌜ ByOk r (λ x. Fits next (x .0) × (x .1 ≤ length (now (rest .entry))) × (take (x .1) (now (rest .entry)) ≡ before (x .0) key ++ ended (x .0) key)) (λ e. WrongInLine next (now (rest .entry)) e) ⌝ }
+{
+    let end = word_end(rest, at);
+    let Some(taken) = take_word(line, key, &rest[at..end], next) else {
+        return Err(Span { at, end });
+    };
+    if end == rest.len() {
+        return Err(Span { at: end, end });
+    }
+    if rest[end] == key.ending() {
+        return Ok((taken, end + 1));
+    }
+    if rest[end] == b' ' {
+        let end_of_next = word_end(rest, end + 1);
+        return Err(Span { at: end + 1, end: end_of_next });
+    }
+    Err(Span { at: end, end })
 }
