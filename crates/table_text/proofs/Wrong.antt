@@ -15,7 +15,7 @@ use Rattle.table_text.specs.declared.lines.Key.the-variants.{Place, Kind, Name
 use Rattle.table_text.specs.declared.lines.Line.{Line}
 use Rattle.table_text.specs.declared.words.Span.{Span}
 use Rattle.table_text.specs.Keys.{Fits, keysBefore, keysAfter, before}
-use Rattle.table_text.specs.Lines.{ending, word, ended, lineText}
+use Rattle.table_text.specs.Lines.{ending, word, ended, order, lineText}
 use Rattle.table_text.specs.Reading.{spanned, Begun, WrongInLine}
 use Rattle.table_text.specs.Texts.{Word, Ended}
 use Rattle.table_text.proofs.Cuts.{cut, line-word, ending-parts, word-on, strip}
@@ -136,3 +136,23 @@ ends-otherwise s end k h ne e =
     let d = sym (ap (take 1) (drop-more s end 0 h)) ∙ e in
     let z : getD s end 0 ≡ ending k = cc in
     ne z
+
+-- the keys before the one with number j
+pub keys-at : (j : ℕ) → j < 9 → keysBefore (getD order j Place) ≡ take j order
+keys-at zero h = refl
+keys-at (suc zero) h = refl
+keys-at (suc (suc zero)) h = refl
+keys-at (suc (suc (suc zero))) h = refl
+keys-at (suc (suc (suc (suc zero)))) h = refl
+keys-at (suc (suc (suc (suc (suc zero))))) h = refl
+keys-at (suc (suc (suc (suc (suc (suc zero)))))) h = refl
+keys-at (suc (suc (suc (suc (suc (suc (suc zero))))))) h = refl
+keys-at (suc (suc (suc (suc (suc (suc (suc (suc zero)))))))) h = refl
+keys-at (suc (suc (suc (suc (suc (suc (suc (suc (suc j))))))))) h = absurd (omega arith)
+
+pub before-at : (l : Line) (j : ℕ) → j < 9 → before l (getD order j Place) ≡ joined (ended l) (take j order)
+before-at l j h = ap (joined (ended l)) (keys-at j h)
+
+-- no line fits behind place 254
+pub none-left : (next : ℕ) (s : List ℕ) (end : ℕ) → 254 < next → end ≤ length s → Word (take (end - 0) (drop 0 s)) → Ended (drop end s) → WrongInLine next s (record { at = 0; end = end })
+none-left next s end h n w u = record { inside = (omega arith, n); word = w; ended = u; before = inl refl; never = λ l f rest after ea same q. omega (arith, f .rises, f .inside) }

@@ -10,11 +10,15 @@ ghost use Rattle.table_text.specs.Keys.{Fits, before};
 ghost use Rattle.table_text.specs.Reading.{WrongInLine};
 use crate::lines::Key;
 use crate::lines::Line;
+use crate::lines::ORDER;
 use crate::numerals::natural_between;
 use crate::numerals::value_within;
 use crate::words::Span;
 use crate::words::word_end;
+use host::COMPONENT;
+use host::EMPTY;
 use host::NONE;
+use host::Row;
 use host::pack_name;
 
 fn kind_named(text: &[u8]) -> Option<u8>
@@ -91,4 +95,35 @@ fn read_word(rest: &[u8], at: usize, line: Line, key: Key, next: u8) -> Result<(
         return Err(Span { at: end + 1, end: end_of_next });
     }
     Err(Span { at: end, end })
+}
+
+// A line that may come where places below `next` are past; what is read is put into it value by value.
+fn sample_line(next: u8) -> Line
+    requires { ⌜ next ≤ 254 ⌝ }
+    ensures { λ r. ⌜ Fits next r ⌝ }
+{
+    let row = Row { kind: COMPONENT, name: 0x6100_0000_0000_0000, ..EMPTY };
+    Line { place: next, row }
+}
+
+// Reads a line from the start of the rest of a text, and says where the next one begins.
+fn read_line(rest: &[u8], next: u8) -> Result<(Line, usize), Span>
+    ensures { λ r. ⌜ ByOk r (λ x. Fits next (x .0) × (x .1 ≤ length (now (rest .entry))) × (take (x .1) (now (rest .entry)) ≡ lineText (x .0))) (λ e. WrongInLine next (now (rest .entry)) e) ⌝ }
+{
+    if next > 254 {
+        let end = word_end(rest, 0);
+        return Err(Span { at: 0, end });
+    }
+    let mut line = sample_line(next);
+    let mut at = 0;
+    for key in ORDER {
+        match read_word(rest, at, line, key, next) {
+            Ok((taken, end)) => {
+                line = taken;
+                at = end;
+            }
+            Err(wrong) => return Err(wrong),
+        }
+    }
+    Ok((line, at))
 }
