@@ -1,6 +1,7 @@
 pub mod Cuts
 pub mod Found
 pub mod Joins
+pub mod Lifted
 pub mod Spelling
 pub mod Splits
 pub mod Tables
