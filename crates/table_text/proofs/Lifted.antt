@@ -8,7 +8,7 @@ use lib.ListN.{length, getD, set, take, drop, replicate, length-set, length-drop
 use Rattle.std.specs.Joined.{joined}
 use Rattle.std.specs.shelf.Lists.{All}
 use Rattle.std.proofs.shelf.Elements.{all-set}
-use Rattle.std.proofs.shelf.Lists.{append-nil, length-take-le, drop-drop, drop-more, getD-set-other, nil-from-length}
+use Rattle.std.proofs.shelf.Lists.{append-nil, length-take-le, drop-drop, drop-more, getD-set-other, nil-from-length, length-replicate, take-all}
 use Rattle.host.specs.Tables.{emptyRow, rowAt}
 use Rattle.host.specs.declared.rows.Row.{Row}
 use Rattle.table_text.specs.declared.lines.Line.{Line}
@@ -16,9 +16,11 @@ use Rattle.table_text.specs.declared.words.Span.{Span}
 use Rattle.table_text.specs.Keys.{Fits}
 use Rattle.table_text.specs.Lines.{lineText, linesOf, tableText}
 use Rattle.table_text.specs.Reading.{spanned, Begun, WrongInLine}
-use Rattle.table_text.specs.Texts.{Sayable, SayableTable, TableText, Word, Ended, FirstWrong}
+use Rattle.table_text.specs.Texts.{Sayable, SayableTable, TableText, Word, Ended, FirstWrong, Stands}
+use Rattle.table_text.specs.declared.words.WrongWord.{WrongWord}
+use Rattle.table_text.specs.Marks.{Marks, ReadAs, WrongIn}
 use Rattle.table_text.proofs.Joins.{joined-push, take-split}
-use Rattle.table_text.proofs.Splits.{after, after-push, lines-set, line-behind, table-lines-fit, texts-split}
+use Rattle.table_text.proofs.Splits.{after, after-push, lines-set, line-behind, table-lines-fit, texts-split, no-lines, one-text}
 
 -- the first `at` bytes of s are the text of table t, whose rows from `next` on are empty
 pub record ReadSoFar (s : List ℕ) (at : ℕ) (t : List Row) (next : ℕ) : Type 0 where
@@ -118,4 +120,42 @@ module _ (s : List ℕ) (at : ℕ) (t : List Row) (next : ℕ) (r : ReadSoFar s 
           let q = sym (table .2) ∙ ap (λ x. x ++ (spanned (drop at s) e ++ after′)) (take-on (e .at)) ∙ append-assoc (tableText t) (take (e .at) (drop at s)) _ in
           let (js, lu, text) = texts-split (linesOf 0 t) (linesOf 0 u) _ (table-lines-fit t (r .sayable)) (table-lines-fit u (table .1)) q in
           follow js u after′ (table .1) lu text ea (λ z. same z ∙ ap (take 1) rest-is);
+    }
+
+all-empty : (n : ℕ) → All (λ r. (r ≡ emptyRow) ⊎ Sayable r) (replicate n emptyRow)
+all-empty zero = tt
+all-empty (suc n) = (inl refl, all-empty n)
+
+empty-at : (n k : ℕ) → rowAt (replicate n emptyRow) k ≡ emptyRow
+empty-at zero k = refl
+empty-at (suc n) zero = refl
+empty-at (suc n) (suc k) = empty-at n k
+
+-- before the first line
+pub nothing-read : (s : List ℕ) → ReadSoFar s 0 (replicate 255 emptyRow) 0
+nothing-read s =
+    let none = no-lines 0 (replicate 255 emptyRow) (empty-at 255) in
+    record {
+      inside = omega arith;
+      text = sym (ap (joined lineText) none);
+      long = length-replicate 255 emptyRow;
+      sayable = record { few = omega (arith, length-replicate 255 emptyRow); rows = all-empty 255 };
+      empty = λ k h. empty-at 255 k;
+      past = sym (ap (after 0) none);
+    }
+
+-- behind the last line
+pub all-read : (s : List ℕ) (at : ℕ) (t : List Row) (next : ℕ) → ReadSoFar s at t next → length s ≤ at → ReadAs s t
+all-read s at t next r h =
+    let e = sym (take-all at s h) ∙ r .text in
+    record { long = r .long; sayable = r .sayable; text = e; only = λ u n su q. one-text u t su (r .sayable) (n ∙ sym (r .long)) (sym q ∙ e) }
+
+-- a wrong word as it is handed out
+pub handed-out : (s : List ℕ) (at : ℕ) (t : List Row) (next : ℕ) (e : Span) (w : WrongWord) → ReadSoFar s at t next → at < length s → WrongInLine next (drop at s) e → Marks s (at + e .at) (at + e .end) w → WrongIn s w
+handed-out s at t next e w r more x m =
+    let n : at + e .end - (at + e .at) ≡ e .end - e .at = omega arith in
+    let word = m .part ∙ ap (λ k. take k (drop (at + e .at) s)) n ∙ ap (take (e .end - e .at)) (sym (drop-drop (e .at) at s)) in
+    record {
+      first = subst (λ i. FirstWrong s i (w .word .now)) (sym (m .offset)) (subst (FirstWrong s (at + e .at)) (sym word) (lifted s at t next r e more x));
+      stands = subst (λ i. Stands s i (w .line) (w .byte)) (sym (m .offset)) (m .stands);
     }

@@ -43,7 +43,7 @@ keep : (p : ℕ) (r : Row) (t : List Row) → eqb (r .kind) 0 ≡ false → line
 keep p r t e = cond-false (eqb (r .kind) 0) _ _ e
 
 -- rows that are all empty have no line
-no-lines : (p : ℕ) (t : List Row) → ((k : ℕ) → rowAt t k ≡ emptyRow) → linesOf p t ≡ []
+pub no-lines : (p : ℕ) (t : List Row) → ((k : ℕ) → rowAt t k ≡ emptyRow) → linesOf p t ≡ []
 no-lines p [] h = refl
 no-lines p (r ∷ t) h = skip p r t (empty-kind r (h 0)) ∙ no-lines (p + 1) t (λ k. h (suc k))
 
@@ -110,7 +110,7 @@ lines-fit p (r ∷ t) a n =
 pub table-lines-fit : (t : List Row) → SayableTable t → All (Fits 0) (linesOf 0 t)
 table-lines-fit t s = lines-fit 0 t (s .rows) (omega (arith, s .few))
 
-some-text : (l : Line) → 0 < length (lineText l)
+pub some-text : (l : Line) → 0 < length (lineText l)
 unfolding lineText word
 some-text l = omega (arith)
 

@@ -7,6 +7,7 @@ mod writes;
 
 pub use lines::Key;
 pub use lines::Line;
+pub use reads::read_table;
 pub use words::WrongWord;
 pub use words::wrong_word;
 pub use writes::write_table;

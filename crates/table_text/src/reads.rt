@@ -7,6 +7,7 @@ ghost use Rattle.std.specs.Results.{Cases as ByOk};
 ghost use Rattle.table_text.specs.declared.lines.Line.{Line};
 ghost use Rattle.table_text.specs.Lines.{kindText, placeText, valueText, word, ended, lineText};
 ghost use Rattle.table_text.specs.Keys.{Fits, before};
+ghost use Rattle.table_text.specs.Marks.{ReadAs, WrongIn};
 ghost use Rattle.table_text.specs.Reading.{WrongInLine};
 use crate::lines::Key;
 use crate::lines::Line;
@@ -14,7 +15,9 @@ use crate::lines::ORDER;
 use crate::numerals::natural_between;
 use crate::numerals::value_within;
 use crate::words::Span;
+use crate::words::WrongWord;
 use crate::words::word_end;
+use crate::words::wrong_word;
 use host::COMPONENT;
 use host::EMPTY;
 use host::NONE;
@@ -126,4 +129,25 @@ fn read_line(rest: &[u8], next: u8) -> Result<(Line, usize), Span>
         }
     }
     Ok((line, at))
+}
+
+/// Reads a table text: the rows that its lines say, the others empty; or the first word that no table text can have there.
+/// A table has one text only, so the table that is read is the only one with this text.
+pub fn read_table<'a>(text: &'a [u8]) -> Result<[Row; 255], WrongWord<'a>>
+    ensures { λ r. ⌜ ByOk r (λ t. ReadAs (now (text .entry)) t) (λ w. WrongIn (now (text .entry)) w) ⌝ }
+{
+    let mut table = [EMPTY; 255];
+    let mut next = 0;
+    let mut at = 0;
+    while at < text.len() {
+        match read_line(&text[at..], next) {
+            Ok((line, len)) => {
+                table[line.place as usize] = line.row;
+                next = line.place + 1;
+                at += len;
+            }
+            Err(wrong) => return Err(wrong_word(text, at + wrong.at, at + wrong.end)),
+        }
+    }
+    Ok(table)
 }
