@@ -1,13 +1,15 @@
 -- The lines of a table, one place after another.
 use mathlib.Core.Path.{_≡_, refl, sym, ap, subst, _∙_}
 use mathlib.Core.Bool.{Bool, true, false, cond}
-use mathlib.Core.List.{List, [], _∷_, _++_, append-assoc}
-use Prim.Native.Nat.{ℕ, zero, suc, _+_, _*_, _≤_, _<_, min}
+use mathlib.Core.List.{List, [], _∷_, _++_, map, append-assoc}
+use Prim.Native.Nat.{ℕ, zero, suc, _+_, _-_, _*_, _≤_, _<_, min}
 use native.Mathlib.Omega.{arith}
 use lib.Dec.{eqb}
-use lib.ListN.{length, getD, take, drop, length-append, length-take}
+use lib.ListN.{length, getD, set, take, drop, length-append, length-take}
 use Rattle.std.specs.Joined.{joined}
-use Rattle.std.proofs.shelf.Lists.{take-more, append-nil, take-append-drop, length-take-le, take-all}
+use Rattle.std.proofs.shelf.Lists.{take-more, append-nil, take-append-drop, length-take-le, take-all, set-append-right, drop-more}
+use Rattle.std.specs.Iters.{counting}
+use Rattle.std.proofs.shelf.Counted.{length-map-counting, map-counting-more}
 use Rattle.host.specs.Tables.{emptyRow, rowAt}
 use Rattle.host.specs.declared.rows.Row.{Row}
 use Rattle.table_text.specs.declared.lines.Line.{Line}
@@ -53,3 +55,13 @@ module _ (t : List Row) (i : ℕ) (h : i < length t) (bytes : List ℕ) (len : �
 
   pub length-more : length (tableText (take (i + 1) t)) ≡ length (tableText (take i t)) + len
   length-more = ap length (text-more t i h ∙ ap (λ s. tableText (take i t) ++ s) (sym row-spelt)) ∙ length-append (tableText (take i t)) (take len bytes) ∙ ap (λ n. length (tableText (take i t)) + n) (length-take-le len bytes (omega (arith, room, within)))
+
+-- one place more of a table that is filled from its start
+pub fill-more : (f : ℕ → Row) (u : List Row) (i : ℕ) → i < length u → set (map f (counting 0 i) ++ drop i u) i (f i) ≡ map f (counting 0 (i + 1)) ++ drop (i + 1) u
+fill-more f u i h =
+    let n = length-map-counting f 0 i in
+    let z : i - i ≡ 0 = omega arith in
+    set-append-right (map f (counting 0 i)) (drop i u) i i (f i) n (omega arith)
+    ∙ (λ j. map f (counting 0 i) ++ set (drop-more u i emptyRow h j) (z j) (f i))
+    ∙ sym (append-assoc (map f (counting 0 i)) (f i ∷ []) (drop (i + 1) u))
+    ∙ ap (λ t. t ++ drop (i + 1) u) (sym (map-counting-more f 0 i i (omega arith)))
