@@ -8,7 +8,7 @@ use lib.ListN.{length, getD, set, take, drop, replicate, length-set, length-drop
 use Rattle.std.specs.Joined.{joined}
 use Rattle.std.specs.shelf.Lists.{All}
 use Rattle.std.proofs.shelf.Elements.{all-set}
-use Rattle.std.proofs.shelf.Lists.{append-nil, length-take-le, drop-drop, drop-more, getD-set-other, nil-from-length, length-replicate, take-all}
+use Rattle.std.proofs.shelf.Lists.{append-nil, length-take-le, drop-drop, drop-more, getD-set-other, nil-from-length, length-replicate, take-all, take-append-drop}
 use Rattle.host.specs.Tables.{emptyRow, rowAt}
 use Rattle.host.specs.declared.rows.Row.{Row}
 use Rattle.table_text.specs.declared.lines.Line.{Line}
@@ -148,7 +148,7 @@ nothing-read s =
 pub all-read : (s : List ℕ) (at : ℕ) (t : List Row) (next : ℕ) → ReadSoFar s at t next → length s ≤ at → ReadAs s t
 all-read s at t next r h =
     let e = sym (take-all at s h) ∙ r .text in
-    record { long = r .long; sayable = r .sayable; text = e; only = λ u n su q. one-text u t su (r .sayable) (n ∙ sym (r .long)) (sym q ∙ e) }
+    record { long = r .long; sayable = r .sayable; text = e }
 
 -- a wrong word as it is handed out
 pub handed-out : (s : List ℕ) (at : ℕ) (t : List Row) (next : ℕ) (e : Span) (w : WrongWord) → ReadSoFar s at t next → at < length s → WrongInLine next (drop at s) e → Marks s (at + e .at) (at + e .end) w → WrongIn s w
@@ -159,3 +159,14 @@ handed-out s at t next e w r more x m =
       first = subst (λ i. FirstWrong s i (w .word .now)) (sym (m .offset)) (subst (FirstWrong s (at + e .at)) (sym word) (lifted s at t next r e more x));
       stands = subst (λ i. Stands s i (w .line) (w .byte)) (sym (m .offset)) (m .stands);
     }
+
+-- a text with a wrong word is no table text
+pub no-text-at : (s : List ℕ) (at : ℕ) (w : List ℕ) → FirstWrong s at w → TableText s → ⊥
+no-text-at s at w f t =
+    let n = length w in
+    let e = sym (take-append-drop at s) ∙ ap (λ x. take at s ++ x) (sym (take-append-drop n (drop at s)) ∙ (λ i. f .part .1 i ++ drop-drop n at s i)) in
+    f .never (drop (at + n) s) (f .whole .1) (λ z. refl) (t .0, t .1, sym e ∙ t .2)
+
+-- a table that has this text is the one that was read
+pub read-back : (s : List ℕ) (t u : List Row) → ReadAs s t → length u ≡ 255 → SayableTable u → s ≡ tableText u → t ≡ u
+read-back s t u r n su q = one-text t u (r .sayable) su (r .long ∙ sym n) (sym (r .text) ∙ q)

@@ -14,12 +14,11 @@ pub record Marks (s : List ℕ) (at end : ℕ) (w : WrongWord) : Type 0 where
   pub part : w .word .now ≡ take (end - at) (drop at s)
   pub stands : Stands s at (w .line) (w .byte)
 
--- the table t, of 255 rows, is the one whose written form is the text s
+-- the text s is exactly the written form of the table t, of 255 rows
 pub record ReadAs (s : List ℕ) (t : List Row) : Type 0 where
   pub long : length t ≡ 255
   pub sayable : SayableTable t
   pub text : s ≡ tableText t
-  pub only : (u : List Row) → length u ≡ 255 → SayableTable u → s ≡ tableText u → u ≡ t
 
 -- w is the first wrong word of s as a table text, and where it says that it stands
 pub record WrongIn (s : List ℕ) (w : WrongWord) : Type 0 where

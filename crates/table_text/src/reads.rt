@@ -1,14 +1,17 @@
 ghost use mathlib.Core.Path.{_≡_};
-ghost use mathlib.Core.List.{_++_};
+ghost use mathlib.Core.List.{List, _++_};
 ghost use Prim.Native.Nat.{ℕ, _+_, _≤_, _<_};
 ghost use lib.ListN.{length, take, drop};
 ghost use Rattle.std.specs.Options.{Cases as BySome};
 ghost use Rattle.std.specs.Results.{Cases as ByOk};
+ghost use Rattle.std.specs.declared.result.Result.the-variants.{Ok};
+ghost use Rattle.host.specs.declared.rows.Row.{Row};
 ghost use Rattle.table_text.specs.declared.lines.Line.{Line};
-ghost use Rattle.table_text.specs.Lines.{kindText, placeText, valueText, word, ended, lineText};
+ghost use Rattle.table_text.specs.Lines.{kindText, placeText, valueText, word, ended, lineText, tableText};
 ghost use Rattle.table_text.specs.Keys.{Fits, before};
 ghost use Rattle.table_text.specs.Marks.{ReadAs, WrongIn};
 ghost use Rattle.table_text.specs.Reading.{WrongInLine};
+ghost use Rattle.table_text.specs.Texts.{SayableTable};
 use crate::lines::Key;
 use crate::lines::Line;
 use crate::lines::ORDER;
@@ -132,9 +135,10 @@ fn read_line(rest: &[u8], next: u8) -> Result<(Line, usize), Span>
 }
 
 /// Reads a table text: the rows that its lines say, the others empty; or the first word that no table text can have there.
-/// A table has one text only, so the table that is read is the only one with this text.
+/// The text is then exactly the written form of the table, and what was written of a table that a text can say is read back as that table.
 pub fn read_table<'a>(text: &'a [u8]) -> Result<[Row; 255], WrongWord<'a>>
-    ensures { λ r. ⌜ ByOk r (λ t. ReadAs (now (text .entry)) t) (λ w. WrongIn (now (text .entry)) w) ⌝ }
+    ensures answer { λ r. ⌜ ByOk r (λ t. ReadAs (now (text .entry)) t) (λ w. WrongIn (now (text .entry)) w) ⌝ }
+    ensures back { λ r. ⌜ ((t : List Row) → length t ≡ 255 → SayableTable t → now (text .entry) ≡ tableText t → r ≡ Ok t) ⌝ }
 {
     let mut table = [EMPTY; 255];
     let mut next = 0;

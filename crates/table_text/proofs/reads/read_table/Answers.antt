@@ -3,12 +3,13 @@ use mathlib.Core.List.{List}
 use Prim.Native.Nat.{ℕ, _-_, _≤_}
 use native.Mathlib.Omega.{arith}
 use lib.ListN.{length, take, drop, length-take, length-drop}
+use Rattle.std.specs.declared.result.Result.the-variants.{Ok}
 use Rattle.std.proofs.shelf.Lists.{take-rest}
 use Rattle.table_text.specs.declared.lines.Line.{Line}
 use Rattle.table_text.specs.Keys.{Fits}
 use Rattle.table_text.specs.Lines.{lineText}
 use Rattle.table_text.specs.Reading.{WrongInLine}
-use Rattle.table_text.proofs.Lifted.{nothing-read, read-more, all-read, handed-out}
+use Rattle.table_text.proofs.Lifted.{nothing-read, read-more, all-read, handed-out, no-text-at, read-back}
 use Rattle.table_text.proofs.Splits.{some-text}
 use Rattle.table_text.proofs.reads.read_table.Needs as need
 
@@ -37,7 +38,11 @@ returns-in-Err c =
     let at = c .loop-at .at in
     let e = c .in-Err .wrong in
     let x = subst (λ y. WrongInLine (c .loop-at .next) y e) (take-rest s at) (c .in-Err .ensures tt) in
-    handed-out s at (c .loop-at .table) (c .loop-at .next) e (c .wrong-word .result) (c .loop-at .inv) (omega arith) x (c .wrong-word .ensures (omega (arith, x .inside .0)) (omega (arith, x .inside .1, length-drop at s)))
+    let w = handed-out s at (c .loop-at .table) (c .loop-at .next) e (c .wrong-word .result) (c .loop-at .inv) (omega arith) x (c .wrong-word .ensures (omega (arith, x .inside .0)) (omega (arith, x .inside .1, length-drop at s))) in
+    record { answer = w; back = λ t n st q. absurd (no-text-at s _ _ (w .first) (t, st, q)) }
 
 pub returns : need.returns
-returns c = all-read (c .args .text .now) (c .loop-at .at) (c .loop-at .table) (c .loop-at .next) (c .loop-at .inv) (omega arith)
+returns c =
+    let s = c .args .text .now in
+    let r = all-read s (c .loop-at .at) (c .loop-at .table) (c .loop-at .next) (c .loop-at .inv) (omega arith) in
+    record { answer = r; back = λ t n st q. ap Ok (read-back s (c .loop-at .table) t r n st q) }
