@@ -17,16 +17,24 @@ use table_text::write_table;
 
 // The sled's image has room for this many rows, and the radar's bay for this many of them from this place on.
 const IMAGE_ROWS: usize = 64;
+
 const BAY_FIRST: u8 = 8;
+
 const BAY_ROWS: u8 = 48;
 
 fn print_wrong_word(rt: &LibcRuntime, wrong: &WrongWord<'_>) -> Result<(), AnyError> {
-    let refusal = Refusal::TableWord { line: wrong.line, byte: wrong.byte };
+    let refusal = Refusal::TableWord {
+        line: wrong.line,
+        byte: wrong.byte,
+    };
     let number = refusal.number();
     let word = String::from_utf8_lossy(rt.alloc(), wrong.word)?;
     let line = wrong.line;
     let byte = wrong.byte;
-    println!(rt, "refused by {number}: line {line}, byte {byte}: wrong word \"{word}\"")?;
+    println!(
+        rt,
+        "refused by {number}: line {line}, byte {byte}: wrong word \"{word}\""
+    )?;
     Ok(())
 }
 
@@ -58,18 +66,28 @@ fn print_table<H: Host>(rt: &LibcRuntime, host: &H) -> Result<(), AnyError> {
 
 fn store(rt: &LibcRuntime, rows: &[host::Row; 255]) -> Result<(), AnyError> {
     let words = vec![in rt.alloc(); 0u32; 8 * IMAGE_ROWS]?;
-    let mut bay = Bay { below: Packed { words }, first: BAY_FIRST, count: BAY_ROWS };
+    let mut bay = Bay {
+        below: Packed { words },
+        first: BAY_FIRST,
+        count: BAY_ROWS,
+    };
     let capacity = bay.capacity();
     match put_table(rows, &mut bay) {
         Ok(()) => {
             let filled = filled_rows(&bay);
-            println!(rt, "put into the bay: {capacity} places from place {BAY_FIRST} of an image of {IMAGE_ROWS} rows")?;
+            println!(
+                rt,
+                "put into the bay: {capacity} places from place {BAY_FIRST} of an image of {IMAGE_ROWS} rows"
+            )?;
             println!(rt, "read back: {filled} filled rows")?;
             print_table(rt, &bay)?;
         }
         Err(refusal) => {
             let number = refusal.number();
-            println!(rt, "refused by {number}: a place beyond the bay's {capacity}")?;
+            println!(
+                rt,
+                "refused by {number}: a place beyond the bay's {capacity}"
+            )?;
         }
     }
     Ok(())

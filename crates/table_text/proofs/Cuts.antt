@@ -73,8 +73,8 @@ word-kind : (k : ℕ) → k ≤ 4 → Word (kindText k)
 word-kind k h =
     cond-word (eqb k 1) (codes "comp") _ (word-from (codes "comp") refl)
     (λ e. cond-word (eqb k 2) (codes "prov") _ (word-from (codes "prov") refl)
-        (λ e. cond-word (eqb k 3) (codes "req") _ (word-from (codes "req") refl)
-            (λ e. cond-word (eqb k 4) (codes "par") _ (word-from (codes "par") refl) (λ e. word-decimal k (omega arith)))))
+    (λ e. cond-word (eqb k 3) (codes "req") _ (word-from (codes "req") refl)
+    (λ e. cond-word (eqb k 4) (codes "par") _ (word-from (codes "par") refl) (λ e. word-decimal k (omega arith)))))
 
 key-word : (k : Key) → Word (keyText k)
 key-word Place = word-from (codes "place=") refl

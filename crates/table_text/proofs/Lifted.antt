@@ -81,15 +81,20 @@ module _ (s : List ℕ) (at : ℕ) (t : List Row) (next : ℕ) (r : ReadSoFar s 
     goes-on =
         ⊎-elim
         (λ (z : e .at ≡ 0). (tableText t, [], inl (take-on (e .at) ∙ ap (λ i. tableText t ++ take i (drop at s)) z ∙ append-nil (tableText t)), tt, (t, r .sayable, append-nil (tableText t))))
-        (λ (b : Begun next (drop at s) (e .at)).
-            (tableText t ++ b .front, b .after,
-             ⊎-elim
-             (λ (p : take (e .at) (drop at s) ≡ b .front). inl (take-on (e .at) ∙ ap (λ x. tableText t ++ x) p))
-             (λ p. inr (take-on (e .at) ∙ ap (λ x. tableText t ++ x) p ∙ sym (append-assoc (tableText t) (b .front) (32 ∷ []))))
-             (b .parted),
-             b .ended,
-             (set t (b .line .place) (b .line .row), sayable-set t next (b .line) (r .long) (r .sayable) (r .empty) (b .fits),
-              append-assoc (tableText t) (b .front) (b .after) ∙ ap (λ x. tableText t ++ x) (b .whole) ∙ sym (text-set t next (b .line) (r .long) (r .sayable) (r .empty) (b .fits)))))
+        (λ (b : Begun next (drop at s) (e .at)). (
+          tableText t ++ b .front,
+          b .after,
+          ⊎-elim
+              (λ (p : take (e .at) (drop at s) ≡ b .front). inl (take-on (e .at) ∙ ap (λ x. tableText t ++ x) p))
+              (λ p. inr (take-on (e .at) ∙ ap (λ x. tableText t ++ x) p ∙ sym (append-assoc (tableText t) (b .front) (32 ∷ []))))
+              (b .parted),
+          b .ended,
+          (
+            set t (b .line .place) (b .line .row),
+            sayable-set t next (b .line) (r .long) (r .sayable) (r .empty) (b .fits),
+            append-assoc (tableText t) (b .front) (b .after) ∙ ap (λ x. tableText t ++ x) (b .whole) ∙ sym (text-set t next (b .line) (r .long) (r .sayable) (r .empty) (b .fits)),
+          ),
+        ))
         (w .before)
 
     -- the lines that would follow those that were read

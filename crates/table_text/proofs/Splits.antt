@@ -80,21 +80,21 @@ line-behind p [] (x ∷ ls) rest l a n e = absurd (omega (arith, ap length e))
 line-behind p (r ∷ t) [] rest l a n e =
     ⊎-elim
     (λ (b : r ≡ emptyRow).
-        let f = line-behind (p + 1) t [] rest l (a .1) (omega arith) (sym (skip p r t (empty-kind r b)) ∙ e) in
-        record { rises = omega (arith, f .rises); inside = f .inside; row = f .row })
+    let f = line-behind (p + 1) t [] rest l (a .1) (omega arith) (sym (skip p r t (empty-kind r b)) ∙ e) in
+    record { rises = omega (arith, f .rises); inside = f .inside; row = f .row })
     (λ (s : Sayable r).
-        let q = sym (keep p r t (filled-kind r s)) ∙ e in
-        let same : line p r ≡ l = cc in
-        subst (λ x. Fits p x) same (record { rises = omega arith; inside = omega arith; row = s }))
+    let q = sym (keep p r t (filled-kind r s)) ∙ e in
+    let same : line p r ≡ l = cc in
+    subst (λ x. Fits p x) same (record { rises = omega arith; inside = omega arith; row = s }))
     (a .0)
 line-behind p (r ∷ t) (x ∷ ls) rest l a n e =
     ⊎-elim
     (λ (b : r ≡ emptyRow). line-behind (p + 1) t (x ∷ ls) rest l (a .1) (omega arith) (sym (skip p r t (empty-kind r b)) ∙ e))
     (λ (s : Sayable r).
-        let q = sym (keep p r t (filled-kind r s)) ∙ e in
-        let same : line p r ≡ x = cc in
-        let tail : linesOf (p + 1) t ≡ ls ++ (l ∷ rest) = cc in
-        subst (λ y. Fits (after (y .place + 1) ls) l) same (line-behind (p + 1) t ls rest l (a .1) (omega arith) tail))
+    let q = sym (keep p r t (filled-kind r s)) ∙ e in
+    let same : line p r ≡ x = cc in
+    let tail : linesOf (p + 1) t ≡ ls ++ (l ∷ rest) = cc in
+    subst (λ y. Fits (after (y .place + 1) ls) l) same (line-behind (p + 1) t ls rest l (a .1) (omega arith) tail))
     (a .0)
 
 -- the lines of a table that can be said fit, each
@@ -136,17 +136,17 @@ tables-same p (x ∷ t) [] a b n h e = absurd (omega arith)
 tables-same p (x ∷ t) (y ∷ u) a b n h e =
     ⊎-elim
     (λ (i : x ≡ emptyRow). ⊎-elim
-        (λ (j : y ≡ emptyRow). λ k. (i ∙ sym j) k ∷ tables-same (p + 1) t u (a .1) (b .1) (omega arith) (omega arith) (sym (skip p x t (empty-kind x i)) ∙ e ∙ skip p y u (empty-kind y j)) k)
-        (λ (s : Sayable y). absurd (omega (arith, line-behind (p + 1) t [] (linesOf (p + 1) u) (line p y) (a .1) (omega arith) (sym (skip p x t (empty-kind x i)) ∙ e ∙ keep p y u (filled-kind y s)) .rises)))
-        (b .0))
+    (λ (j : y ≡ emptyRow). λ k. (i ∙ sym j) k ∷ tables-same (p + 1) t u (a .1) (b .1) (omega arith) (omega arith) (sym (skip p x t (empty-kind x i)) ∙ e ∙ skip p y u (empty-kind y j)) k)
+    (λ (s : Sayable y). absurd (omega (arith, line-behind (p + 1) t [] (linesOf (p + 1) u) (line p y) (a .1) (omega arith) (sym (skip p x t (empty-kind x i)) ∙ e ∙ keep p y u (filled-kind y s)) .rises)))
+    (b .0))
     (λ (r : Sayable x). ⊎-elim
-        (λ (j : y ≡ emptyRow). absurd (omega (arith, line-behind (p + 1) u [] (linesOf (p + 1) t) (line p x) (b .1) (omega arith) (sym (skip p y u (empty-kind y j)) ∙ sym e ∙ keep p x t (filled-kind x r)) .rises)))
-        (λ (s : Sayable y).
-            let q = sym (keep p x t (filled-kind x r)) ∙ e ∙ keep p y u (filled-kind y s) in
-            let same : line p x ≡ line p y = cc in
-            let rest : linesOf (p + 1) t ≡ linesOf (p + 1) u = cc in
-            λ k. same k .row ∷ tables-same (p + 1) t u (a .1) (b .1) (omega arith) (omega arith) rest k)
-        (b .0))
+    (λ (j : y ≡ emptyRow). absurd (omega (arith, line-behind (p + 1) u [] (linesOf (p + 1) t) (line p x) (b .1) (omega arith) (sym (skip p y u (empty-kind y j)) ∙ sym e ∙ keep p x t (filled-kind x r)) .rises)))
+    (λ (s : Sayable y).
+    let q = sym (keep p x t (filled-kind x r)) ∙ e ∙ keep p y u (filled-kind y s) in
+    let same : line p x ≡ line p y = cc in
+    let rest : linesOf (p + 1) t ≡ linesOf (p + 1) u = cc in
+    λ k. same k .row ∷ tables-same (p + 1) t u (a .1) (b .1) (omega arith) (omega arith) rest k)
+    (b .0))
     (a .0)
 
 -- a table of a given length has one text only

@@ -49,13 +49,13 @@ place-same : (p q : ℕ) → p ≤ 255 → q ≤ 255 → placeText p ≡ placeTe
 place-same p q hp hq e =
     ⊎-elim
     (λ (a : eqb p 255 ≡ true). ⊎-elim
-        (λ (b : eqb q 255 ≡ true). eqb-true p 255 a ∙ sym (eqb-true q 255 b))
-        (λ b. absurd (not-none q (omega arith) (sym (cond-true (eqb p 255) _ _ a) ∙ e ∙ cond-false (eqb q 255) _ _ b)))
-        (cases-bool (eqb q 255)))
+    (λ (b : eqb q 255 ≡ true). eqb-true p 255 a ∙ sym (eqb-true q 255 b))
+    (λ b. absurd (not-none q (omega arith) (sym (cond-true (eqb p 255) _ _ a) ∙ e ∙ cond-false (eqb q 255) _ _ b)))
+    (cases-bool (eqb q 255)))
     (λ a. ⊎-elim
-        (λ (b : eqb q 255 ≡ true). absurd (not-none p (omega arith) (sym (cond-true (eqb q 255) _ _ b) ∙ sym e ∙ cond-false (eqb p 255) _ _ a)))
-        (λ b. same-from-decimal p q (omega arith) (omega arith) (sym (cond-false (eqb p 255) _ _ a) ∙ e ∙ cond-false (eqb q 255) _ _ b))
-        (cases-bool (eqb q 255)))
+    (λ (b : eqb q 255 ≡ true). absurd (not-none p (omega arith) (sym (cond-true (eqb q 255) _ _ b) ∙ sym e ∙ cond-false (eqb p 255) _ _ a)))
+    (λ b. same-from-decimal p q (omega arith) (omega arith) (sym (cond-false (eqb p 255) _ _ a) ∙ e ∙ cond-false (eqb q 255) _ _ b))
+    (cases-bool (eqb q 255)))
     (cases-bool (eqb p 255))
 
 million-same : (y z : ℤ) → (negsuc 999999 ≤ℤ y) × (y ≤ℤ pos 1000000) → (negsuc 999999 ≤ℤ z) × (z ≤ℤ pos 1000000) → signed y ≡ signed z → y ≡ z

@@ -64,14 +64,14 @@ module _ (next : ℕ) (s : List ℕ) (l : Line) (k : Key) (at end : ℕ) (f : Fi
     before = ⊎-elim
         (λ (z : before l k ≡ []). inl (sym (length-take-le at s (omega arith)) ∙ ap length (b ∙ z)))
         (λ z. inr (record {
-            line = l;
-            front = z .0;
-            after = 32 ∷ (word l k ++ (ending k ∷ joined (ended l) (keysAfter k)));
-            fits = f;
-            whole = sym (append-assoc (z .0) (32 ∷ []) _) ∙ ap (λ t. t ++ (word l k ++ (ending k ∷ joined (ended l) (keysAfter k)))) (sym (z .1)) ∙ line-parts l k;
-            ended = refl;
-            parted = inr (b ∙ z .1);
-          }))
+          line = l;
+          front = z .0;
+          after = 32 ∷ (word l k ++ (ending k ∷ joined (ended l) (keysAfter k)));
+          fits = f;
+          whole = sym (append-assoc (z .0) (32 ∷ []) _) ∙ ap (λ t. t ++ (word l k ++ (ending k ∷ joined (ended l) (keysAfter k)))) (sym (z .1)) ∙ line-parts l k;
+          ended = refl;
+          parted = inr (b ∙ z .1);
+        }))
         (parted l k);
     never = λ e fe rest after ea same q.
         let o = onward fe f k rest _ (q ∙ ap (λ t. t ++ (take (end - at) (drop at s) ++ after)) b) in

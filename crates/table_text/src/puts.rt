@@ -14,7 +14,11 @@ fn row_or_empty(table: &[Row], place: u8) -> Row
     ensures { λ r. ⌜ r ≡ rowAt (now (table .entry)) place ⌝ }
 {
     let place = place as usize;
-    if place < table.len() { table[place] } else { EMPTY }
+    if place < table.len() {
+        table[place]
+    } else {
+        EMPTY
+    }
 }
 
 // Whether every filled row has a place below the capacity.

@@ -98,7 +98,10 @@ fn read_word(rest: &[u8], at: usize, line: Line, key: Key, next: u8) -> Result<(
     }
     if rest[end] == b' ' {
         let end_of_next = word_end(rest, end + 1);
-        return Err(Span { at: end + 1, end: end_of_next });
+        return Err(Span {
+            at: end + 1,
+            end: end_of_next,
+        });
     }
     Err(Span { at: end, end })
 }
@@ -108,7 +111,11 @@ fn sample_line(next: u8) -> Line
     requires { ⌜ next ≤ 254 ⌝ }
     ensures { λ r. ⌜ Fits next r ⌝ }
 {
-    let row = Row { kind: COMPONENT, name: 0x6100_0000_0000_0000, ..EMPTY };
+    let row = Row {
+        kind: COMPONENT,
+        name: 0x6100_0000_0000_0000,
+        ..EMPTY
+    };
     Line { place: next, row }
 }
 

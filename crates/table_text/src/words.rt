@@ -69,5 +69,10 @@ pub fn wrong_word<'a>(text: &'a [u8], at: usize, end: usize) -> WrongWord<'a>
     let end = end.min(text.len());
     let at = at.min(end);
     let (line, byte) = locate(text, at);
-    WrongWord { word: &text[at..end], at, line, byte }
+    WrongWord {
+        word: &text[at..end],
+        at,
+        line,
+        byte,
+    }
 }

@@ -11,8 +11,8 @@ returns-else-z-least c = λ n low high e.
     let r = c .in-Some .ensures tt in
     let same : c .in-Some .z ≡ pos n = one-number (c .args .s .now) (c .in-Some .z) (pos n) (r .0) (small-fits n (omega arith)) (r .1) e in
     elim (c .else-z-least .came) [
-      else-z-least·by·then-z-least·else-z-most w ↦ let l = w .if-z-most .left in grind (arith, ints)
-    | else-z-least·by·else-z-least w ↦ let l = w .if-z-least .left in grind (arith, ints)
+      | else-z-least·by·then-z-least·else-z-most w ↦ let l = w .if-z-most .left in grind (arith, ints)
+      | else-z-least·by·else-z-least w ↦ let l = w .if-z-least .left in grind (arith, ints)
     ]
 
 pub returns-in-None : need.returns-in-None

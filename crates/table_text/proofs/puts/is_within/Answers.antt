@@ -14,9 +14,10 @@ pub returns-then-is-filled : need.returns-then-is-filled
 returns-then-is-filled c =
     let t = c .args .table .now in
     let p = c .loop-place .place in
-    let d = getD-default t p _ emptyRow (omega arith) in
-    (λ e. absurd (true≢false (sym e)),
-     λ within. absurd (true≢false (sym (c .if-is-filled .taken) ∙ c .is-filled .ensures ∙ ap not (eq-eqb _ 0 (ap (λ r. r .kind) d ∙ within p (omega arith))))))
+    let d = getD-default t p _ emptyRow (omega arith) in (
+      λ e. absurd (true≢false (sym e)),
+      λ within. absurd (true≢false (sym (c .if-is-filled .taken) ∙ c .is-filled .ensures ∙ ap not (eq-eqb _ 0 (ap (λ r. r .kind) d ∙ within p (omega arith))))),
+    )
 
 pub loop-place-again : need.loop-place-again
 loop-place-again c = λ p low high.
@@ -30,10 +31,11 @@ loop-place-again c = λ p low high.
 
 pub returns : need.returns
 returns c =
-    let t = c .args .table .now in
-    (λ _ p low.
-        ⊎-elim
-        (λ (h : p < c .loop-place .place). c .loop-place .inv p low h)
-        (λ (h : c .loop-place .place ≤ p). ap (λ r. r .kind) (getD-past t p emptyRow (omega arith)))
-        (cases-lt p (c .loop-place .place)),
-     λ _. refl)
+    let t = c .args .table .now in (
+      λ _ p low.
+          ⊎-elim
+          (λ (h : p < c .loop-place .place). c .loop-place .inv p low h)
+          (λ (h : c .loop-place .place ≤ p). ap (λ r. r .kind) (getD-past t p emptyRow (omega arith)))
+          (cases-lt p (c .loop-place .place)),
+      λ _. refl,
+    )

@@ -16,10 +16,9 @@ loop-place-again g c =
     let t = c .args .table .now in
     let u = g .H·Host .rows (c .args .host .now) in
     let i = c .loop-place .place in
-    let w = c .write .ensures in
-    (
+    let w = c .write .ensures in (
       w .rows ∙ (λ j. set (c .loop-place .inv .0 j) i (c .row-or-empty .ensures j)) ∙ fill-more (rowAt t) u i (omega (arith, c .capacity-capacity .ensures)),
-      g .H·Host .onward (c .args .host .now) (c .loop-place .host) (c .write .last .self) (c .loop-place .inv .1) (w .held)
+      g .H·Host .onward (c .args .host .now) (c .loop-place .host) (c .write .last .self) (c .loop-place .inv .1) (w .held),
     )
 
 pub returns-then-not-is-within : need.returns-then-not-is-within

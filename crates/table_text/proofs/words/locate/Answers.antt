@@ -14,6 +14,6 @@ loop-i-again c =
     let s = c .args .text .now in
     let i = c .loop-i .i in
     elim (c .if-text-i-eq10 .came) [
-      then-text-i-eq10 w ↦ subst (λ l. Stands s (i + 1) l (c .if-text-i-eq10 .byte)) (sym (w .line-is)) (subst (λ b. Stands s (i + 1) (c .loop-i .line + 1) b) (sym (w .byte-is)) (line-more s i (c .loop-i .line) (c .loop-i .byte) (omega arith) (c .loop-i .inv) (w .if-text-i-eq10 .taken)))
-    | else-text-i-eq10 w ↦ subst (λ l. Stands s (i + 1) l (c .if-text-i-eq10 .byte)) (sym (w .line-is)) (subst (λ b. Stands s (i + 1) (c .loop-i .line) b) (sym (w .byte-is)) (byte-more s i (c .loop-i .line) (c .loop-i .byte) (omega arith) (c .loop-i .inv) (w .if-text-i-eq10 .left)))
+      | then-text-i-eq10 w ↦ subst (λ l. Stands s (i + 1) l (c .if-text-i-eq10 .byte)) (sym (w .line-is)) (subst (λ b. Stands s (i + 1) (c .loop-i .line + 1) b) (sym (w .byte-is)) (line-more s i (c .loop-i .line) (c .loop-i .byte) (omega arith) (c .loop-i .inv) (w .if-text-i-eq10 .taken)))
+      | else-text-i-eq10 w ↦ subst (λ l. Stands s (i + 1) l (c .if-text-i-eq10 .byte)) (sym (w .line-is)) (subst (λ b. Stands s (i + 1) (c .loop-i .line) b) (sym (w .byte-is)) (byte-more s i (c .loop-i .line) (c .loop-i .byte) (omega arith) (c .loop-i .inv) (w .if-text-i-eq10 .left)))
     ]

@@ -34,20 +34,18 @@ loop-place-again g c =
     let p = c .put-bytes-at .ensures .puts in
     let at = c .loop-place .at in
     let to = c .put-bytes-at .result in
-    let ends : to ≡ length (tableText (take (i + 1) t)) = omega (arith, p .ends, more, n, len) in
-    (
+    let ends : to ≡ length (tableText (take (i + 1) t)) = omega (arith, p .ends, more, n, len) in (
       ends,
       p .written ∙ (λ j. c .loop-place .inv .1 j ++ part j) ∙ sym (text-more t i h),
-      c .put-bytes-at .ensures .rest ∙ drop-further at to (c .loop-place .buf) (c .args .buf .now) (omega (arith, p .ends)) (c .loop-place .inv .2)
+      c .put-bytes-at .ensures .rest ∙ drop-further at to (c .loop-place .buf) (c .args .buf .now) (omega (arith, p .ends)) (c .loop-place .inv .2),
     )
 
 pub returns : need.returns
 returns g c =
     let t = g .H·Host .rows (c .args .host .now) in
     let all = text-all t (c .loop-place .place) (omega (arith, c .capacity-place-end .ensures)) in
-    let n = c .loop-place .inv .0 ∙ ap length all in
-    (
+    let n = c .loop-place .inv .0 ∙ ap length all in (
       n,
       omega (arith, c .text-length .ensures),
-      sym (take-append-drop (c .loop-place .at) (c .loop-place .buf)) ∙ (λ j. (c .loop-place .inv .1 ∙ all) j ++ c .loop-place .inv .2 j) ∙ ap (λ k. tableText t ++ drop k (c .args .buf .now)) n
+      sym (take-append-drop (c .loop-place .at) (c .loop-place .buf)) ∙ (λ j. (c .loop-place .inv .1 ∙ all) j ++ c .loop-place .inv .2 j) ∙ ap (λ k. tableText t ++ drop k (c .args .buf .now)) n,
     )
