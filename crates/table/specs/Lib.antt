@@ -1,0 +1,4 @@
+pub mod Climbing
+pub mod Deciding
+pub mod Places
+pub mod Rules

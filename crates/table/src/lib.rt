@@ -1,0 +1,7 @@
+// The rules of a lawful table, and the steps that change one, over any host.
+mod breaches;
+mod places;
+mod rules;
+
+pub use breaches::Breach;
+pub use rules::check;
