@@ -16,7 +16,7 @@ use Rattle.host.specs.Tables.{rowAt, emptyRow}
 use Rattle.table.specs.Deciding.{some?, map?}
 use Rattle.table.specs.Places.{ownerAt, climb, Reaches}
 
-ltOrGe : (m n : ℕ) → (m < n) ⊎ (n ≤ m)
+pub ltOrGe : (m n : ℕ) → (m < n) ⊎ (n ≤ m)
 ltOrGe m n = elim (decLt m n) [ yes h ↦ inl h | no h ↦ inr (omega arith) ]
 
 -- two indices up to n at which f is the same

@@ -2,3 +2,4 @@ pub mod Climbing
 pub mod Deciding
 pub mod Places
 pub mod Rules
+pub mod Steps

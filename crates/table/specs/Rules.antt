@@ -2,7 +2,7 @@
 use mathlib.Core.Path.{_≡_}
 use mathlib.Core.Logic.{_≢_, _⊎_}
 use mathlib.Core.List.{List}
-use Prim.Native.Nat.{ℕ, _<_, _≤_}
+use Prim.Native.Nat.{ℕ, suc, _<_, _≤_}
 use lib.IntN.{ℤ, pos, negsuc}
 use lib.Signed.{_≤ℤ_}
 use Rattle.std.specs.declared.option.Option.{Option}
@@ -99,6 +99,11 @@ Lawful t = (p : ℕ) (k : Rule) → Keeps k t p
 pub record LowestBroken (t : List Row) (p : ℕ) (k : Rule) : Type 0 where
   pub broken : Keeps k t p → ⊥
   pub lowest : (j : Rule) → ruleNumber j < ruleNumber k → Keeps j t p
+
+-- the rule after a rule, by their numbers; none after the tenth
+abbrev pub Following : Rule → Option Rule → Type 0
+Following k None = ruleNumber k ≡ 10
+Following k (Some j) = ruleNumber j ≡ suc (ruleNumber k)
 
 -- what is found wrong at a place: nothing, or the lowest rule that is broken there
 abbrev pub WrongAt : List Row → ℕ → Option Rule → Type 0

@@ -2,6 +2,8 @@
 mod breaches;
 mod places;
 mod rules;
+mod steps;
 
 pub use breaches::Breach;
 pub use rules::check;
+pub use steps::Step;

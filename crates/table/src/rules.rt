@@ -1,6 +1,6 @@
 ghost use mathlib.Core.Path.{_≡_};
 ghost use Rattle.std.specs.Orderings.{Decides};
-ghost use Rattle.table.specs.Rules.{KindKnown, FieldsFit, R3, R4, R5, R6, R7, R8, R10, InRange, WrongAt, Checked};
+ghost use Rattle.table.specs.Rules.{KindKnown, FieldsFit, R3, R4, R5, R6, R7, R8, R10, InRange, Keeps, Following, WrongAt, Checked};
 use crate::breaches::Breach;
 use crate::places::borne;
 use crate::places::joinable;
@@ -102,34 +102,54 @@ fn name_alone<H: Host>(host: &H, place: u8) -> bool
     row.kind == 0 || !borne(host, place, place, row.owner, row.name)
 }
 
+/// Whether a rule is kept at a place.
+fn keeps<H: Host>(host: &H, place: u8, rule: Rule) -> bool
+    ensures { λ r. ⌜ Decides r (Keeps rule (H·Host .rows (now (host .entry))) place) ⌝ }
+{
+    match rule {
+        Rule::KnownKind => kind_known(row_at(host, place)),
+        Rule::OwnFields => fields_fit(row_at(host, place)),
+        Rule::NameForm => name_formed(host, place),
+        Rule::OwnerIsComponent => owner_is_component(host, place),
+        Rule::ParameterOwner => parameter_alone(host, place),
+        Rule::Range => range_kept(host, place),
+        Rule::LinkEnd => link_ends(host, place),
+        Rule::LinkOwners => link_joins(host, place),
+        Rule::OwnersEnd => reaches(host, place, NONE),
+        Rule::OwnName => name_alone(host, place),
+    }
+}
+
+/// The rule after a rule, by their numbers.
+fn following(rule: Rule) -> Option<Rule>
+    ensures { λ r. ⌜ Following rule r ⌝ }
+{
+    match rule {
+        Rule::KnownKind => Some(Rule::OwnFields),
+        Rule::OwnFields => Some(Rule::NameForm),
+        Rule::NameForm => Some(Rule::OwnerIsComponent),
+        Rule::OwnerIsComponent => Some(Rule::ParameterOwner),
+        Rule::ParameterOwner => Some(Rule::Range),
+        Rule::Range => Some(Rule::LinkEnd),
+        Rule::LinkEnd => Some(Rule::LinkOwners),
+        Rule::LinkOwners => Some(Rule::OwnersEnd),
+        Rule::OwnersEnd => Some(Rule::OwnName),
+        Rule::OwnName => None,
+    }
+}
+
 /// The lowest rule that is broken at a place.
 fn wrong_at<H: Host>(host: &H, place: u8) -> Option<Rule>
     ensures { λ r. ⌜ WrongAt (H·Host .rows (now (host .entry))) place r ⌝ }
 {
-    let row = row_at(host, place);
-    if !kind_known(row) {
-        Some(Rule::KnownKind)
-    } else if !fields_fit(row) {
-        Some(Rule::OwnFields)
-    } else if !name_formed(host, place) {
-        Some(Rule::NameForm)
-    } else if !owner_is_component(host, place) {
-        Some(Rule::OwnerIsComponent)
-    } else if !parameter_alone(host, place) {
-        Some(Rule::ParameterOwner)
-    } else if !range_kept(host, place) {
-        Some(Rule::Range)
-    } else if !link_ends(host, place) {
-        Some(Rule::LinkEnd)
-    } else if !link_joins(host, place) {
-        Some(Rule::LinkOwners)
-    } else if !reaches(host, place, NONE) {
-        Some(Rule::OwnersEnd)
-    } else if !name_alone(host, place) {
-        Some(Rule::OwnName)
-    } else {
-        None
+    let mut rule = Rule::KnownKind;
+    while keeps(host, place, rule) {
+        match following(rule) {
+            Some(next) => rule = next,
+            None => return None,
+        }
     }
+    Some(rule)
 }
 
 /// Whether a table is lawful; if not, the lowest place that breaks a rule and the lowest rule broken there.
