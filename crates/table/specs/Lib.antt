@@ -1,4 +1,5 @@
 pub mod Climbing
+pub mod Conditions
 pub mod Deciding
 pub mod Places
 pub mod Rules

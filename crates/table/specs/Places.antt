@@ -1,6 +1,6 @@
 -- What stands at the places of a table, and how places lead to one another.
 use mathlib.Core.Path.{_≡_}
-use mathlib.Core.Logic.{_≢_}
+use mathlib.Core.Logic.{_≢_, _⊎_}
 use mathlib.Core.Bool.{true}
 use mathlib.Core.List.{List}
 use Prim.Native.Nat.{ℕ, zero, suc, _<_}
@@ -53,17 +53,25 @@ climb t (suc n) p = climb t n (ownerAt t p)
 abbrev pub Reaches : List Row → ℕ → ℕ → Type 0
 Reaches t p g = (n : ℕ) × (climb t n p ≡ g)
 
+-- some place of the table
+abbrev pub Somewhere : List Row → (ℕ → Type 0) → Type 0
+Somewhere t P = (q : ℕ) × (q < length t) × P q
+
 -- some row of a kind has o as owner
 abbrev pub Owns : List Row → ℕ → ℕ → Type 0
-Owns t o kind = (q : ℕ) × (q < length t) × (kindAt t q ≡ kind) × (ownerAt t q ≡ o)
+Owns t o kind = Somewhere t (λ q. (kindAt t q ≡ kind) × (ownerAt t q ≡ o))
 
 -- another row has p as owner
 abbrev pub OwnsAnother : List Row → ℕ → Type 0
-OwnsAnother t p = (q : ℕ) × (q < length t) × (q ≢ p) × (ownerAt t q ≡ p)
+OwnsAnother t p = Somewhere t (λ q. (q ≢ p) × (ownerAt t q ≡ p))
 
 -- another row has p as link
 abbrev pub LinkOfAnother : List Row → ℕ → Type 0
-LinkOfAnother t p = (q : ℕ) × (q < length t) × (q ≢ p) × (linkAt t q ≡ p)
+LinkOfAnother t p = Somewhere t (λ q. (q ≢ p) × (linkAt t q ≡ p))
+
+-- an interface of a has a link or is another's link
+abbrev pub InterfaceLinked : List Row → ℕ → Type 0
+InterfaceLinked t a = Somewhere t (λ q. (ownerAt t q ≡ a) × ((kindAt t q ≡ provided) ⊎ (kindAt t q ≡ required)) × ((linkAt t q ≢ none) ⊎ LinkOfAnother t q))
 
 -- the row at q is filled, has o as owner and bears the name n
 pub record Bears (t : List Row) (q o n : ℕ) : Type 0 where
@@ -73,7 +81,7 @@ pub record Bears (t : List Row) (q o n : ℕ) : Type 0 where
 
 -- some place below `end` other than p bears the name n under the owner o
 abbrev pub Borne : List Row → ℕ → ℕ → ℕ → ℕ → Type 0
-Borne t end p o n = (q : ℕ) × (q < end) × (q ≢ p) × Bears t q o n
+Borne t end p o n = (q : ℕ) × (q < end) × ((q ≢ p) × Bears t q o n)
 
 -- the owners of a and b differ and have one same component as owner
 pub record Joinable (t : List Row) (a b : ℕ) : Type 0 where

@@ -1,11 +1,8 @@
 -- What a step does to a table, and why it is refused.
-use mathlib.Core.Path.{_≡_}
-use mathlib.Core.Logic.{_≢_, _⊎_}
 use mathlib.Core.List.{List, [], _∷_}
-use Prim.Native.Nat.{ℕ, _<_, _≤_}
+use Prim.Native.Nat.{ℕ}
 use lib.IntN.{ℤ, pos}
-use lib.Signed.{_≤ℤ_}
-use lib.ListN.{length, set}
+use lib.ListN.{set}
 use Rattle.std.specs.declared.option.Option.{Option}
 use Rattle.std.specs.declared.option.Option.the-variants.{Some, None}
 use Rattle.std.specs.declared.result.Result.{Result}
@@ -14,135 +11,160 @@ use Rattle.host.specs.declared.rows.Row.{Row}
 use Rattle.host.specs.declared.refusals.Refusal.{Refusal}
 use Rattle.host.specs.declared.refusals.Refusal.the-variants.{BeyondCapacity, WrongRow, OutOfRange, Tied, Running, InUse, OwnerLoop, NameTaken}
 use Rattle.host.specs.Tables.{rowAt, emptyRow}
-use Rattle.host.specs.Names.{IsName}
 use Rattle.table.specs.declared.steps.Step.{Step}
 use Rattle.table.specs.declared.steps.Step.the-variants.{New, Provide, Require, Parameter, Delete, Add, Remove, Bind, Unbind, Start, Stop, Set}
-use Rattle.table.specs.Places.{component, provided, required, parameter, none, kindAt, nameAt, ownerAt, linkAt, Filled, Started, Reaches, Owns, OwnsAnother, LinkOfAnother, Borne, Joinable}
-use Rattle.table.specs.Rules.{InRange}
+use Rattle.table.specs.Conditions.{Condition, never, always, _or_, _and_, isn't, _is_, _isnt_, _upto_, past, name, inRange, started, owns, ownsAnother, linkOfAnother, interfaceLinked, joinable, reaches, borne}
+use Rattle.table.specs.Places.{component, provided, required, parameter, none, kindAt, nameAt, ownerAt, linkAt}
 
--- 2: a place that the step names lies beyond the capacity
-abbrev pub IsBeyond : List Row → Step → Type 0
-IsBeyond t (New a n) = length t ≤ a
-IsBeyond t (Provide a c n) = (length t ≤ a) ⊎ (length t ≤ c)
-IsBeyond t (Require a c n) = (length t ≤ a) ⊎ (length t ≤ c)
-IsBeyond t (Parameter a c n lo hi v) = (length t ≤ a) ⊎ (length t ≤ c)
-IsBeyond t (Delete a) = length t ≤ a
-IsBeyond t (Add a b) = (length t ≤ a) ⊎ (length t ≤ b)
-IsBeyond t (Remove a) = length t ≤ a
-IsBeyond t (Bind a b) = (length t ≤ a) ⊎ (length t ≤ b)
-IsBeyond t (Unbind a) = length t ≤ a
-IsBeyond t (Start a) = length t ≤ a
-IsBeyond t (Stop a) = length t ≤ a
-IsBeyond t (Set a v) = length t ≤ a
+-- a place that the step names lies beyond the capacity
+abbrev pub beyond : List Row → Step → Condition
+beyond t (New a n) = past t a
+beyond t (Provide a c n) = past t a or past t c
+beyond t (Require a c n) = past t a or past t c
+beyond t (Parameter a c n lo hi v) = past t a or past t c
+beyond t (Delete a) = past t a
+beyond t (Add a b) = past t a or past t b
+beyond t (Remove a) = past t a
+beyond t (Bind a b) = past t a or past t b
+beyond t (Unbind a) = past t a
+beyond t (Start a) = past t a
+beyond t (Stop a) = past t a
+beyond t (Set a v) = past t a
 
--- the rows that the step needs
-abbrev pub HasRows : List Row → Step → Type 0
-HasRows t (New a n) = kindAt t a ≡ 0
-HasRows t (Provide a c n) = (kindAt t a ≡ 0) × (kindAt t c ≡ component)
-HasRows t (Require a c n) = (kindAt t a ≡ 0) × (kindAt t c ≡ component)
-HasRows t (Parameter a c n lo hi v) = (kindAt t a ≡ 0) × (kindAt t c ≡ component)
-HasRows t (Delete a) = Filled t a
-HasRows t (Add a b) = (kindAt t a ≡ component) × (kindAt t b ≡ component)
-HasRows t (Remove a) = kindAt t a ≡ component
-HasRows t (Bind a b) = (kindAt t a ≡ provided) × (kindAt t b ≡ required)
-HasRows t (Unbind a) = kindAt t a ≡ provided
-HasRows t (Start a) = kindAt t a ≡ component
-HasRows t (Stop a) = kindAt t a ≡ component
-HasRows t (Set a v) = kindAt t a ≡ parameter
+-- the rows are as the step needs them
+abbrev pub needed : List Row → Step → Condition
+needed t (New a n) = kindAt t a is 0
+needed t (Provide a c n) = kindAt t a is 0 and kindAt t c is component
+needed t (Require a c n) = kindAt t a is 0 and kindAt t c is component
+needed t (Parameter a c n lo hi v) = kindAt t a is 0 and kindAt t c is component
+needed t (Delete a) = kindAt t a isnt 0
+needed t (Add a b) = kindAt t a is component and kindAt t b is component
+needed t (Remove a) = kindAt t a is component
+needed t (Bind a b) = kindAt t a is provided and kindAt t b is required
+needed t (Unbind a) = kindAt t a is provided
+needed t (Start a) = kindAt t a is component
+needed t (Stop a) = kindAt t a is component
+needed t (Set a v) = kindAt t a is parameter
 
--- the name and the numbers that the step brings are as they have to be
-abbrev pub IsSound : List Row → Step → Type 0
-IsSound t (New a n) = IsName n
-IsSound t (Provide a c n) = IsName n
-IsSound t (Require a c n) = IsName n
-IsSound t (Parameter a c n lo hi v) = IsName n × InRange lo hi v
-IsSound t (Delete a) = Unit {0}
-IsSound t (Add a b) = Unit {0}
-IsSound t (Remove a) = Unit {0}
-IsSound t (Bind a b) = Unit {0}
-IsSound t (Unbind a) = Unit {0}
-IsSound t (Start a) = Unit {0}
-IsSound t (Stop a) = Unit {0}
-IsSound t (Set a v) = (rowAt t a .lo ≤ℤ v) × (v ≤ℤ rowAt t a .hi)
+abbrev pub wrongRows : List Row → Step → Condition
+wrongRows t s = isn't (needed t s)
 
--- 13: what the step would join is joined already, or not to be joined; what it would part is not joined
-abbrev pub IsTied : List Row → Step → Type 0
-IsTied t (New a n) = ⊥
-IsTied t (Provide a c n) = ⊥
-IsTied t (Require a c n) = ⊥
-IsTied t (Parameter a c n lo hi v) = Owns t c component
-IsTied t (Delete a) = ⊥
-IsTied t (Add a b) = (ownerAt t a ≢ none) ⊎ Owns t b parameter
-IsTied t (Remove a) = ownerAt t a ≡ none
-IsTied t (Bind a b) = (linkAt t a ≢ none) ⊎ (Joinable t a b → ⊥)
-IsTied t (Unbind a) = linkAt t a ≡ none
-IsTied t (Start a) = ⊥
-IsTied t (Stop a) = ⊥
-IsTied t (Set a v) = ⊥
+-- the name has the form of a name, and the numbers are in range
+abbrev pub sound : List Row → Step → Condition
+sound t (New a n) = name n
+sound t (Provide a c n) = name n
+sound t (Require a c n) = name n
+sound t (Parameter a c n lo hi v) = name n and inRange lo hi v
+sound t (Delete a) = always
+sound t (Add a b) = always
+sound t (Remove a) = always
+sound t (Bind a b) = always
+sound t (Unbind a) = always
+sound t (Start a) = always
+sound t (Stop a) = always
+sound t (Set a v) = rowAt t a .lo upto v and v upto rowAt t a .hi
 
--- 12: a component that has to be stopped is started
-abbrev pub IsRunning : List Row → Step → Type 0
-IsRunning t (New a n) = ⊥
-IsRunning t (Provide a c n) = Started t c
-IsRunning t (Require a c n) = Started t c
-IsRunning t (Parameter a c n lo hi v) = Started t c
-IsRunning t (Delete a) = Started t a ⊎ ((kindAt t a ≢ component) × Started t (ownerAt t a))
-IsRunning t (Add a b) = Started t b
-IsRunning t (Remove a) = Started t (ownerAt t a)
-IsRunning t (Bind a b) = Started t (ownerAt t b)
-IsRunning t (Unbind a) = Started t (ownerAt t (linkAt t a))
-IsRunning t (Start a) = ⊥
-IsRunning t (Stop a) = ⊥
-IsRunning t (Set a v) = ⊥
+abbrev pub outOfRange : List Row → Step → Condition
+outOfRange t s = isn't (sound t s)
 
--- an interface of a has a link or is another's link
-abbrev pub InterfaceLinked : List Row → ℕ → Type 0
-InterfaceLinked t a = (q : ℕ) × (q < length t) × (ownerAt t q ≡ a) × ((kindAt t q ≡ provided) ⊎ (kindAt t q ≡ required)) × ((linkAt t q ≢ none) ⊎ LinkOfAnother t q)
+-- what shall be joined is joined already or may not be joined, or what shall be parted is not joined
+abbrev pub tied : List Row → Step → Condition
+tied t (New a n) = never
+tied t (Provide a c n) = never
+tied t (Require a c n) = never
+tied t (Parameter a c n lo hi v) = owns t c component
+tied t (Delete a) = never
+tied t (Add a b) = ownerAt t a isnt none or owns t b parameter
+tied t (Remove a) = ownerAt t a is none
+tied t (Bind a b) = linkAt t a isnt none or isn't (joinable t a b)
+tied t (Unbind a) = linkAt t a is none
+tied t (Start a) = never
+tied t (Stop a) = never
+tied t (Set a v) = never
 
--- 14: other rows need this one
-abbrev pub IsInUse : List Row → Step → Type 0
-IsInUse t (New a n) = ⊥
-IsInUse t (Provide a c n) = ⊥
-IsInUse t (Require a c n) = ⊥
-IsInUse t (Parameter a c n lo hi v) = ⊥
-IsInUse t (Delete a) = (OwnsAnother t a ⊎ LinkOfAnother t a) ⊎ ((linkAt t a ≢ none) ⊎ ((kindAt t a ≡ component) × (ownerAt t a ≢ none)))
-IsInUse t (Add a b) = ⊥
-IsInUse t (Remove a) = InterfaceLinked t a
-IsInUse t (Bind a b) = ⊥
-IsInUse t (Unbind a) = ⊥
-IsInUse t (Start a) = ⊥
-IsInUse t (Stop a) = ⊥
-IsInUse t (Set a v) = ⊥
+-- a component that has to be stopped is started
+abbrev pub running : List Row → Step → Condition
+running t (New a n) = never
+running t (Provide a c n) = started t c
+running t (Require a c n) = started t c
+running t (Parameter a c n lo hi v) = started t c
+running t (Delete a) = started t a or kindAt t a isnt component and started t (ownerAt t a)
+running t (Add a b) = started t b
+running t (Remove a) = started t (ownerAt t a)
+running t (Bind a b) = started t (ownerAt t b)
+running t (Unbind a) = started t (ownerAt t (linkAt t a))
+running t (Start a) = never
+running t (Stop a) = never
+running t (Set a v) = never
 
--- 15: a is b, or owns b through any number of owners
-abbrev pub IsLoop : List Row → Step → Type 0
-IsLoop t (New a n) = ⊥
-IsLoop t (Provide a c n) = ⊥
-IsLoop t (Require a c n) = ⊥
-IsLoop t (Parameter a c n lo hi v) = ⊥
-IsLoop t (Delete a) = ⊥
-IsLoop t (Add a b) = Reaches t b a
-IsLoop t (Remove a) = ⊥
-IsLoop t (Bind a b) = ⊥
-IsLoop t (Unbind a) = ⊥
-IsLoop t (Start a) = ⊥
-IsLoop t (Stop a) = ⊥
-IsLoop t (Set a v) = ⊥
+-- other rows lean on the row that shall go
+abbrev pub inUse : List Row → Step → Condition
+inUse t (New a n) = never
+inUse t (Provide a c n) = never
+inUse t (Require a c n) = never
+inUse t (Parameter a c n lo hi v) = never
+inUse t (Delete a) = ownsAnother t a or linkOfAnother t a or linkAt t a isnt none or kindAt t a is component and ownerAt t a isnt none
+inUse t (Add a b) = never
+inUse t (Remove a) = interfaceLinked t a
+inUse t (Bind a b) = never
+inUse t (Unbind a) = never
+inUse t (Start a) = never
+inUse t (Stop a) = never
+inUse t (Set a v) = never
 
--- 11: another filled row with the owner that a shall have bears the name that a shall have
-abbrev pub IsTaken : List Row → Step → Type 0
-IsTaken t (New a n) = Borne t (length t) a none n
-IsTaken t (Provide a c n) = Borne t (length t) a c n
-IsTaken t (Require a c n) = Borne t (length t) a c n
-IsTaken t (Parameter a c n lo hi v) = Borne t (length t) a c n
-IsTaken t (Delete a) = ⊥
-IsTaken t (Add a b) = Borne t (length t) a b (nameAt t a)
-IsTaken t (Remove a) = Borne t (length t) a none (nameAt t a)
-IsTaken t (Bind a b) = ⊥
-IsTaken t (Unbind a) = ⊥
-IsTaken t (Start a) = ⊥
-IsTaken t (Stop a) = ⊥
-IsTaken t (Set a v) = ⊥
+-- the component that shall be owned is its owner, or owns it through any number of owners
+abbrev pub loop : List Row → Step → Condition
+loop t (New a n) = never
+loop t (Provide a c n) = never
+loop t (Require a c n) = never
+loop t (Parameter a c n lo hi v) = never
+loop t (Delete a) = never
+loop t (Add a b) = reaches t b a
+loop t (Remove a) = never
+loop t (Bind a b) = never
+loop t (Unbind a) = never
+loop t (Start a) = never
+loop t (Stop a) = never
+loop t (Set a v) = never
+
+-- another filled row with the owner that a shall have bears the name that a shall have
+abbrev pub taken : List Row → Step → Condition
+taken t (New a n) = borne t a none n
+taken t (Provide a c n) = borne t a c n
+taken t (Require a c n) = borne t a c n
+taken t (Parameter a c n lo hi v) = borne t a c n
+taken t (Delete a) = never
+taken t (Add a b) = borne t a b (nameAt t a)
+taken t (Remove a) = borne t a none (nameAt t a)
+taken t (Bind a b) = never
+taken t (Unbind a) = never
+taken t (Start a) = never
+taken t (Stop a) = never
+taken t (Set a v) = never
+
+-- where a condition holds, its refusal; else what follows
+abbrev pub refuseIf : {P : Type 0} → Dec P → Refusal → Option Refusal → Option Refusal
+refuseIf (yes h) e later = Some e
+refuseIf (no h) e later = later
+
+-- the first refusal whose condition holds
+abbrev pub first : List (Condition × Refusal) → Option Refusal
+first [] = None
+first ((c, e) ∷ rest) = refuseIf (c .told) e (first rest)
+
+-- why a step is refused, if it is
+abbrev pub refusal : List Row → Step → Option Refusal
+refusal t s =
+    first (
+      (beyond t s, BeyondCapacity) ∷
+      (wrongRows t s, WrongRow) ∷
+      (outOfRange t s, OutOfRange) ∷
+      (tied t s, Tied) ∷
+      (running t s, Running) ∷
+      (inUse t s, InUse) ∷
+      (loop t s, OwnerLoop) ∷
+      (taken t s, NameTaken) ∷
+      [])
 
 -- the rows of a table with one component, interface or parameter more or changed
 abbrev pub fresh : ℕ → ℕ → ℕ → Row
@@ -193,3 +215,13 @@ rowAfter (Set a v) r = withValue v r
 -- the table after a step
 abbrev pub effect : List Row → Step → List Row
 effect t s = set t (target s) (rowAfter s (rowAt t (target s)))
+
+-- the table after a try: changed only where nothing refuses the step
+abbrev pub afterTry : Option Refusal → List Row → List Row → List Row
+afterTry None t u = u
+afterTry (Some e) t u = t
+
+-- what a try answers
+abbrev pub answerOf : Option Refusal → Result Unit Refusal
+answerOf None = Ok tt
+answerOf (Some e) = Err e
