@@ -20,8 +20,8 @@ pub record Condition : Type 1 where
   pub holds : Type 0
   pub told : Dec holds
 
-infixl 40 _or_
-infixl 50 _and_
+infixr 40 _or_
+infixr 50 _and_
 infixl 60 _is_ _isnt_ _upto_
 
 abbrev pub never : Condition

@@ -69,9 +69,13 @@ OwnsAnother t p = Somewhere t (λ q. (q ≢ p) × (ownerAt t q ≡ p))
 abbrev pub LinkOfAnother : List Row → ℕ → Type 0
 LinkOfAnother t p = Somewhere t (λ q. (q ≢ p) × (linkAt t q ≡ p))
 
+-- q is an interface of a, and has a link or is another's link
+abbrev pub LinkedInterface : List Row → ℕ → ℕ → Type 0
+LinkedInterface t a q = (ownerAt t q ≡ a) × ((kindAt t q ≡ provided) ⊎ (kindAt t q ≡ required)) × ((linkAt t q ≢ none) ⊎ LinkOfAnother t q)
+
 -- an interface of a has a link or is another's link
 abbrev pub InterfaceLinked : List Row → ℕ → Type 0
-InterfaceLinked t a = Somewhere t (λ q. (ownerAt t q ≡ a) × ((kindAt t q ≡ provided) ⊎ (kindAt t q ≡ required)) × ((linkAt t q ≢ none) ⊎ LinkOfAnother t q))
+InterfaceLinked t a = Somewhere t (LinkedInterface t a)
 
 -- the row at q is filled, has o as owner and bears the name n
 pub record Bears (t : List Row) (q o n : ℕ) : Type 0 where

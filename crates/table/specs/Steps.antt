@@ -148,7 +148,7 @@ refuseIf (yes h) e later = Some e
 refuseIf (no h) e later = later
 
 -- the first refusal whose condition holds
-abbrev pub first : List (Condition × Refusal) → Option Refusal
+unfoldable pub first : List (Condition × Refusal) → Option Refusal
 first [] = None
 first ((c, e) ∷ rest) = refuseIf (c .told) e (first rest)
 

@@ -1,6 +1,7 @@
 // The rules of a lawful table, and the steps that change one, over any host.
 mod breaches;
 mod places;
+mod refusing;
 mod rules;
 mod steps;
 

@@ -1,9 +1,12 @@
 ghost use mathlib.Core.Path.{_≡_};
 ghost use Prim.Native.Nat.{ℕ, _≤_, _<_};
 ghost use Rattle.std.specs.Orderings.{Decides};
-ghost use Rattle.table.specs.Places.{Owns, OwnsAnother, LinkOfAnother, Bears, Borne, Reaches, Joinable};
+ghost use Rattle.table.specs.Places.{Owns, OwnsAnother, LinkOfAnother, LinkedInterface, InterfaceLinked, Bears, Borne, Reaches, Joinable};
 use host::COMPONENT;
 use host::Host;
+use host::NONE;
+use host::PROVIDED;
+use host::REQUIRED;
 use host::row_at;
 use host::same_name;
 
@@ -40,6 +43,26 @@ pub fn link_of_another<H: Host>(host: &H, place: u8) -> bool
     for q in 0..host.capacity() {
         let row = row_at(host, q);
         if q != place && row.link == place {
+            return true;
+        }
+    }
+    false
+}
+
+/// Whether the row at `q` is an interface of `owner` that has a link or is another's link.
+fn is_linked_interface<H: Host>(host: &H, owner: u8, q: u8) -> bool
+    ensures { λ r. ⌜ Decides r (LinkedInterface (H·Host .rows (now (host .entry))) owner q) ⌝ }
+{
+    let row = row_at(host, q);
+    row.owner == owner && (row.kind == PROVIDED || row.kind == REQUIRED) && (row.link != NONE || link_of_another(host, q))
+}
+
+/// Whether an interface of the row at `place` has a link or is another's link.
+pub fn interface_linked<H: Host>(host: &H, place: u8) -> bool
+    ensures { λ r. ⌜ Decides r (InterfaceLinked (H·Host .rows (now (host .entry))) place) ⌝ }
+{
+    for q in 0..host.capacity() {
+        if is_linked_interface(host, place, q) {
             return true;
         }
     }
