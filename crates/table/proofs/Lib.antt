@@ -1,3 +1,4 @@
 pub mod Ruling
 pub mod Telling
 pub mod Keeping
+pub mod Settling
