@@ -2,3 +2,4 @@ pub mod Ruling
 pub mod Telling
 pub mod Keeping
 pub mod Settling
+pub mod Accepting

@@ -28,23 +28,23 @@ joins-too t u p q e f g h k j = record {
   inside = ap (kindAt u) (ap (ownerAt u) e ∙ g) ∙ k }
 
 module _ (t : List Row) (small : length t ≤ 255) (law : Lawful t) (a : ℕ) (within : a < length t) where
-  past-all : (q : ℕ) → length t ≤ q → rowAt t q ≡ emptyRow
+  pub past-all : (q : ℕ) → length t ≤ q → rowAt t q ≡ emptyRow
   past-all q = getD-past t q emptyRow
 
   a≢none : a ≢ none
   a≢none = omega arith
 
-  inside-kind : (q : ℕ) → Filled t q → q < length t
+  pub inside-kind : (q : ℕ) → Filled t q → q < length t
   inside-kind q f = elim (ltOrGe q (length t)) [ inl low ↦ low | inr high ↦ absurd (f (ap (λ x. x .kind) (past-all q high))) ]
 
-  inside-link : (q : ℕ) → linkAt t q ≢ none → q < length t
+  pub inside-link : (q : ℕ) → linkAt t q ≢ none → q < length t
   inside-link q l = elim (ltOrGe q (length t)) [ inl low ↦ low | inr high ↦ absurd (l (ap (λ x. x .link) (past-all q high))) ]
 
   -- rows of two kinds stand at two places
-  apart : (p q m n : ℕ) → kindAt t p ≡ m → kindAt t q ≡ n → m ≢ n → p ≢ q
+  pub apart : (p q m n : ℕ) → kindAt t p ≡ m → kindAt t q ≡ n → m ≢ n → p ≢ q
   apart p q m n h k d e = d (sym h ∙ ap (kindAt t) e ∙ k)
 
-  filled : (q k : ℕ) → kindAt t q ≡ k → k ≢ 0 → Filled t q
+  pub filled : (q k : ℕ) → kindAt t q ≡ k → k ≢ 0 → Filled t q
   filled q k e d z = d (sym e ∙ z)
 
   owner-kind : (q : ℕ) → Filled t q → ownerAt t q ≡ a → kindAt t a ≡ component
@@ -54,14 +54,14 @@ module _ (t : List Row) (small : length t ≤ 255) (law : Lawful t) (a : ℕ) (w
   link-kind q e = ap (kindAt t) (sym e) ∙ law q LinkEnd (λ n. a≢none (sym e ∙ n))
 
   -- a row with a link is a provided interface
-  link-provided : (q : ℕ) → linkAt t q ≢ none → kindAt t q ≡ provided
+  pub link-provided : (q : ℕ) → linkAt t q ≢ none → kindAt t q ≡ provided
   link-provided q l = elim (ℕ-discrete (kindAt t q) provided) [ yes e ↦ e | no n ↦ absurd (l (law q OwnFields .link n)) ]
 
   -- what is no component has one as owner
   owner-of : (q k : ℕ) → kindAt t q ≡ k → k ≢ 0 → k ≢ component → kindAt t (ownerAt t q) ≡ component
   owner-of q k e d n = elim (law q OwnerIsComponent (filled q k e d)) [ inl c ↦ c | inr h ↦ absurd (n (sym e ∙ h .0)) ]
 
-  no-parameter-outside : (q : ℕ) → kindAt t q ≡ parameter → ownerAt t q ≡ none → ⊥
+  pub no-parameter-outside : (q : ℕ) → kindAt t q ≡ parameter → ownerAt t q ≡ none → ⊥
   no-parameter-outside q k e = omega (arith, owner-of q parameter k (omega arith) (omega arith), ap (kindAt t) e, ap (λ x. x .kind) (past-all none small))
 
   none-stays : (n : ℕ) → climb t n none ≡ none
@@ -87,7 +87,7 @@ module _ (t : List Row) (small : length t ≤ 255) (law : Lawful t) (a : ℕ) (w
     climb-apart zero p h = refl
     climb-apart (suc n) p h = ap (climb u n) (same-owner p (λ e. h (0, e))) ∙ climb-apart n (ownerAt t p) (λ m. h (suc (m .0), m .1))
 
-    ends-apart : (p : ℕ) → (Reaches t p a → ⊥) → Reaches u p none
+    pub ends-apart : (p : ℕ) → (Reaches t p a → ⊥) → Reaches u p none
     ends-apart p h = let e = law p OwnersEnd in (e .0, climb-apart (e .0) p h ∙ e .1)
 
     -- a link none of whose ends and owners is a
