@@ -9,20 +9,22 @@ use lib.Dec.{lit≤}
 use lib.ListN.{length}
 use Rattle.std.specs.declared.option.Option.{Option}
 use Rattle.std.specs.declared.option.Option.the-variants.{Some, None}
+use Rattle.std.specs.declared.result.Result.{Result}
+use Rattle.std.specs.declared.result.Result.the-variants.{Ok, Err}
 use Rattle.host.specs.declared.rows.Row.{Row}
 use Rattle.host.specs.declared.refusals.Refusal.{Refusal}
 use Rattle.host.specs.declared.refusals.Rule.the-variants.{OwnFields, Range, LinkEnd, LinkOwners}
 use Rattle.std.proofs.shelf.Lists.{getD-past}
-use Rattle.host.specs.Tables.{rowAt, emptyRow}
+use Rattle.host.specs.Tables.{rowAt, emptyRow, Writes}
 use Rattle.host.specs.Names.{IsName}
 use Rattle.table.specs.declared.steps.Step.{Step}
 use Rattle.table.specs.declared.steps.Step.the-variants.{New, Provide, Require, Parameter, Delete, Add, Remove, Bind, Unbind, Start, Stop, Set}
 use Rattle.table.specs.Climbing.{ltOrGe}
 use Rattle.table.specs.Conditions.{Condition, joinable}
 use Rattle.table.specs.Places.{component, provided, required, parameter, none, kindAt, nameAt, ownerAt, linkAt, InterfaceLinked, Borne}
-use Rattle.table.specs.Rules.{FieldsFit, InRange, Lawful}
+use Rattle.table.specs.Rules.{FieldsFit, InRange, KeepsAll, Lawful}
 use Rattle.table.specs.Steps.{refuseIf, first, refusal, beyond, needed, sound, tied, running, inUse, loop, taken, target, rowAfter, effect, fresh, withOwner}
-use Rattle.table.proofs.Keeping.{Settles, stays-lawful}
+use Rattle.table.proofs.Keeping.{Settles, keeps-on}
 use Rattle.table.proofs.Settling.{touched, filling, moved, emptied, ends-apart, past-all, apart, filled, inside-kind, inside-link, link-provided, no-parameter-outside}
 
 pub record Accepted (t : List Row) (s : Step) : Type 0 where
@@ -48,6 +50,7 @@ certain : (c : Condition) → ((c .holds → ⊥) → ⊥) → c .holds
 certain c h = elim (c .told) [ yes p ↦ p | no n ↦ absurd (h n) ]
 
 pub accepted : (t : List Row) (s : Step) → refusal t s ≡ None → Accepted t s
+unfolding refusal
 accepted t s h0 =
     let (n1, h1) = none-applies _ _ _ h0 in
     let (n2, h2) = none-applies _ _ _ h1 in
@@ -77,10 +80,15 @@ within t (Start a) h = below _ a (h .inside)
 within t (Stop a) h = below _ a (h .inside)
 within t (Set a v) h = below _ a (h .inside)
 
+-- so the host does not refuse to write there
+pub written : (t : List Row) (s : Step) → refusal t s ≡ None → (r : Result Unit Refusal) → Writes t (target s) r → r ≡ Ok tt
+written t s e (Ok u) w = refl
+written t s e (Err x) w = absurd (omega (arith, w .0, within t s (accepted t s e)))
+
 fresh-fits : (k o n : ℕ) → FieldsFit (fresh k o n)
 fresh-fits k o n = record { link = λ _. refl; lo = λ _. refl; hi = λ _. refl; value = λ _. refl; up = inl refl }
 
-module _ (t : List Row) (small : length t ≤ 255) (law : Lawful t) where
+module _ (t : List Row) (small : length t ≤ 255) (law : (p : ℕ) → KeepsAll t p) where
   -- an interface of a component
   interface : (k a c n : ℕ) → k ≤ 4 → k ≢ 0 → k ≢ component → k ≢ parameter → a < length t → kindAt t a ≡ 0 → kindAt t c ≡ component → IsName n → (Borne t (length t) a c n → ⊥) → Settles t a (fresh k c n)
   interface k a c n few f d e w z o name free =
@@ -150,6 +158,8 @@ module _ (t : List Row) (small : length t ≤ 255) (law : Lawful t) where
       (record { link = own .link; lo = own .lo; hi = own .hi; value = λ d. absurd (d (h .rows)); up = own .up })
       (λ _. record { low = range .low; above = h .right .0; below = h .right .1; high = range .high }) (λ l. absurd (l e)) (λ l. absurd (l e))
 
-  -- an accepted step keeps a lawful table lawful
-  pub step-lawful : (s : Step) → refusal t s ≡ None → Lawful (effect t s)
-  step-lawful s e = let h = accepted t s e in stays-lawful t (target s) (within t s h) (rowAfter s (rowAt t (target s))) law (settles s h)
+-- an accepted step keeps a lawful table lawful
+pub step-lawful : (t : List Row) → length t ≤ 255 → (s : Step) → Lawful t → refusal t s ≡ None → Lawful (effect t s)
+step-lawful t small s law e =
+    let h = accepted t s e in
+    record { keeps = keeps-on t (target s) (within t s h) (rowAfter s (rowAt t (target s))) (law .keeps) (settles t small (law .keeps) s h) }

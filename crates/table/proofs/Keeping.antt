@@ -14,7 +14,7 @@ use Rattle.host.specs.declared.refusals.Rule.the-variants.{KnownKind, OwnFields
 use Rattle.host.specs.Tables.{rowAt, emptyRow}
 use Rattle.host.specs.Names.{IsName, sameName, sameName-sym}
 use Rattle.table.specs.Places.{component, provided, required, parameter, none, kindAt, nameAt, ownerAt, linkAt, Filled, climb, Reaches, Owns, Bears, Joinable}
-use Rattle.table.specs.Rules.{KindKnown, FieldsFit, InRange, Keeps, Lawful}
+use Rattle.table.specs.Rules.{KindKnown, FieldsFit, InRange, Keeps, KeepsAll}
 
 -- the row r at the place a of the table t
 pub record Settles (t : List Row) (a : ℕ) (r : Row) : Type 0 where
@@ -59,7 +59,7 @@ module _ (t : List Row) (a : ℕ) (within : a < length t) (r : Row) where
     owned = was (λ x. x .owner ≡ o) q d (b .owned);
     named = was (λ x. sameName (x .name) n ≡ true) q d (b .named) }
 
-  module _ (law : Lawful t) (s : Settles t a r) where
+  module _ (law : (p : ℕ) → KeepsAll t p) (s : Settles t a r) where
     here-owner : r .kind ≡ parameter → Owns (set t a r) (r .owner) component → ⊥
     here-owner k (q, low, (c, o)) = elim (ℕ-discrete q a) [
         yes e ↦ omega (arith, k, ap (λ x. x .kind) (sym at-place), subst (λ x. kindAt (set t a r) x ≡ component) e c)
@@ -125,5 +125,5 @@ module _ (t : List Row) (a : ℕ) (within : a < length t) (r : Row) where
       there OwnersEnd = let h = law p OwnersEnd in still (h .0) p (h .1)
       there OwnName = left (λ x. x .kind ≢ 0 → (q : ℕ) → q < p → Bears (set t a r) q (x .owner) (x .name) → ⊥) p d there-name
 
-    pub stays-lawful : Lawful (set t a r)
-    stays-lawful p k = elim (ℕ-discrete p a) [ yes e ↦ subst (λ x. Keeps k (set t a r) x) (sym e) (here k) | no d ↦ there p d k ]
+    pub keeps-on : (p : ℕ) → KeepsAll (set t a r) p
+    keeps-on p k = elim (ℕ-discrete p a) [ yes e ↦ subst (λ x. Keeps k (set t a r) x) (sym e) (here k) | no d ↦ there p d k ]

@@ -12,7 +12,7 @@ use Rattle.host.specs.declared.refusals.Rule.{Rule}
 use Rattle.host.specs.declared.refusals.Rule.the-variants.{KnownKind, OwnFields, NameForm, OwnerIsComponent, ParameterOwner, Range, LinkEnd, LinkOwners, OwnersEnd, OwnName}
 use Rattle.host.specs.Tables.{rowAt, emptyRow}
 use Rattle.table.specs.Climbing.{ltOrGe}
-use Rattle.table.specs.Rules.{KindKnown, FieldsFit, Keeps, Lawful}
+use Rattle.table.specs.Rules.{KindKnown, FieldsFit, Keeps, KeepsAll, Lawful}
 
 -- the empty row keeps every rule
 pub empty-keeps : (t : List Row) (p : ℕ) → rowAt t p ≡ emptyRow → (k : Rule) → Keeps k t p
@@ -28,5 +28,5 @@ empty-keeps t p e OwnersEnd = (1, ap (λ r. r .owner) e)
 empty-keeps t p e OwnName = λ f. absurd (f (ap (λ r. r .kind) e))
 
 -- so a table that keeps the rules at each of its places is lawful
-pub lawful-within : (t : List Row) → ((p : ℕ) → p < length t → (k : Rule) → Keeps k t p) → Lawful t
-lawful-within t h p = elim (ltOrGe p (length t)) [ inl low ↦ h p low | inr high ↦ empty-keeps t p (getD-past t p emptyRow high) ]
+pub lawful-within : (t : List Row) → ((p : ℕ) → p < length t → KeepsAll t p) → Lawful t
+lawful-within t h = record { keeps = λ p. elim (ltOrGe p (length t)) [ inl low ↦ h p low | inr high ↦ empty-keeps t p (getD-past t p emptyRow high) ] }

@@ -16,7 +16,7 @@ use Rattle.host.specs.Tables.{rowAt, emptyRow}
 use Rattle.host.specs.Names.{IsName, sameName, sameName-sym}
 use Rattle.table.specs.Climbing.{ltOrGe}
 use Rattle.table.specs.Places.{component, provided, required, parameter, none, kindAt, nameAt, ownerAt, linkAt, Filled, climb, Reaches, Owns, OwnsAnother, LinkOfAnother, InterfaceLinked, Bears, Borne, Joinable}
-use Rattle.table.specs.Rules.{KindKnown, FieldsFit, InRange, Lawful}
+use Rattle.table.specs.Rules.{KindKnown, FieldsFit, InRange, KeepsAll}
 use Rattle.table.specs.Steps.{withOwner}
 use Rattle.table.proofs.Keeping.{Settles, at-place, elsewhere}
 
@@ -27,7 +27,7 @@ joins-too t u p q e f g h k j = record {
   same = ap (ownerAt u) e ∙ g ∙ j .same ∙ sym h ∙ sym (ap (ownerAt u) f);
   inside = ap (kindAt u) (ap (ownerAt u) e ∙ g) ∙ k }
 
-module _ (t : List Row) (small : length t ≤ 255) (law : Lawful t) (a : ℕ) (within : a < length t) where
+module _ (t : List Row) (small : length t ≤ 255) (law : (p : ℕ) → KeepsAll t p) (a : ℕ) (within : a < length t) where
   pub past-all : (q : ℕ) → length t ≤ q → rowAt t q ≡ emptyRow
   past-all q = getD-past t q emptyRow
 

@@ -91,9 +91,13 @@ Keeps LinkOwners = R8
 Keeps OwnersEnd = R9
 Keeps OwnName = R10
 
+-- every rule is kept at a place
+abbrev pub KeepsAll : List Row → ℕ → Type 0
+KeepsAll t p = (k : Rule) → Keeps k t p
+
 -- every rule is kept at every place
-abbrev pub Lawful : List Row → Type 0
-Lawful t = (p : ℕ) (k : Rule) → Keeps k t p
+pub record Lawful (t : List Row) : Type 0 where
+  pub keeps : (p : ℕ) → KeepsAll t p
 
 -- k is the lowest rule that is broken at p
 pub record LowestBroken (t : List Row) (p : ℕ) (k : Rule) : Type 0 where
@@ -107,13 +111,13 @@ Following k (Some j) = ruleNumber j ≡ suc (ruleNumber k)
 
 -- what is found wrong at a place: nothing, or the lowest rule that is broken there
 abbrev pub WrongAt : List Row → ℕ → Option Rule → Type 0
-WrongAt t p None = (k : Rule) → Keeps k t p
+WrongAt t p None = KeepsAll t p
 WrongAt t p (Some k) = LowestBroken t p k
 
 -- b has the lowest place at which a rule is broken, and the lowest rule broken there
 pub record FirstBreach (t : List Row) (b : Breach) : Type 0 where
   pub here : LowestBroken t (b .place) (b .rule)
-  pub before : (q : ℕ) → q < b .place → (k : Rule) → Keeps k t q
+  pub before : (q : ℕ) → q < b .place → KeepsAll t q
 
 -- what a check of a table answers
 abbrev pub Checked : List Row → Result Unit Breach → Type 0

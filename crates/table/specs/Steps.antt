@@ -153,7 +153,7 @@ first [] = None
 first ((c, e) ∷ rest) = refuseIf (c .told) e (first rest)
 
 -- why a step is refused, if it is
-abbrev pub refusal : List Row → Step → Option Refusal
+unfoldable pub refusal : List Row → Step → Option Refusal
 refusal t s =
     first (
       (beyond t s, BeyondCapacity) ∷
@@ -216,12 +216,18 @@ rowAfter (Set a v) r = withValue v r
 abbrev pub effect : List Row → Step → List Row
 effect t s = set t (target s) (rowAfter s (rowAt t (target s)))
 
--- the table after a try: changed only where nothing refuses the step
-abbrev pub afterTry : Option Refusal → List Row → List Row → List Row
-afterTry None t u = u
-afterTry (Some e) t u = t
+abbrev pub unlessRefused : Option Refusal → List Row → List Row → List Row
+unlessRefused None t u = u
+unlessRefused (Some e) t u = t
+
+-- the table after a try: the step's effect, or the table as it was where the step is refused
+abbrev pub stepped : List Row → Step → List Row
+stepped t s = unlessRefused (refusal t s) t (effect t s)
+
+abbrev pub asAnswer : Option Refusal → Result Unit Refusal
+asAnswer None = Ok tt
+asAnswer (Some e) = Err e
 
 -- what a try answers
-abbrev pub answerOf : Option Refusal → Result Unit Refusal
-answerOf None = Ok tt
-answerOf (Some e) = Err e
+abbrev pub answer : List Row → Step → Result Unit Refusal
+answer t s = asAnswer (refusal t s)

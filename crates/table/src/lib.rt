@@ -4,7 +4,9 @@ mod places;
 mod refusing;
 mod rules;
 mod steps;
+mod trying;
 
 pub use breaches::Breach;
 pub use rules::check;
 pub use steps::Step;
+pub use trying::try_step;
