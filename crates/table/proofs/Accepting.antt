@@ -106,9 +106,10 @@ module _ (t : List Row) (small : length t ≤ 255) (law : (p : ℕ) → KeepsAll
   free-unlinked a w unused q l =
       let p = link-provided t small law a w q l in
       let m = law q LinkEnd l in
-      let k = inside-link t small law a w q l in
-      (λ e. unused (q, k, (e, inl p, inl l)),
-       λ e. unused (linkAt t q, inside-kind t small law a w _ (filled t small law a w _ required m (omega arith)), (e, inr m, inr (q, k, (apart t small law a w q _ provided required p m (omega arith), refl)))))
+      let k = inside-link t small law a w q l in (
+        λ e. unused (q, k, (e, inl p, inl l)),
+        λ e. unused (linkAt t q, inside-kind t small law a w _ (filled t small law a w _ required m (omega arith)), (e, inr m, inr (q, k, (apart t small law a w q _ provided required p m (omega arith), refl)))),
+      )
 
   pub settles : (s : Step) → Accepted t s → Settles t (target s) (rowAfter s (rowAt t (target s)))
   settles (New a n) h =

@@ -57,13 +57,15 @@ module _ (t : List Row) (a : ℕ) (within : a < length t) (r : Row) where
   bore q o n d b = record {
     filled = was (λ x. x .kind ≢ 0) q d (b .filled);
     owned = was (λ x. x .owner ≡ o) q d (b .owned);
-    named = was (λ x. sameName (x .name) n ≡ true) q d (b .named) }
+    named = was (λ x. sameName (x .name) n ≡ true) q d (b .named);
+  }
 
   module _ (law : (p : ℕ) → KeepsAll t p) (s : Settles t a r) where
     here-owner : r .kind ≡ parameter → Owns (set t a r) (r .owner) component → ⊥
     here-owner k (q, low, (c, o)) = elim (ℕ-discrete q a) [
-        yes e ↦ omega (arith, k, ap (λ x. x .kind) (sym at-place), subst (λ x. kindAt (set t a r) x ≡ component) e c)
-      | no n ↦ s .no-component k q n (was (λ x. x .kind ≡ component) q n c) (was (λ x. x .owner ≡ r .owner) q n o) ]
+      | yes e ↦ omega (arith, k, ap (λ x. x .kind) (sym at-place), subst (λ x. kindAt (set t a r) x ≡ component) e c)
+      | no n ↦ s .no-component k q n (was (λ x. x .kind ≡ component) q n c) (was (λ x. x .owner ≡ r .owner) q n o)
+    ]
 
     here : (k : Rule) → Keeps k (set t a r) a
     here KnownKind = put KindKnown (s .kind)
@@ -81,37 +83,44 @@ module _ (t : List Row) (a : ℕ) (within : a < length t) (r : Row) where
     still : (n p : ℕ) → climb t n p ≡ none → Reaches (set t a r) p none
     still zero p e = (0, e)
     still (suc n) p e = elim (ℕ-discrete p a) [
-        yes same ↦ subst (λ x. Reaches (set t a r) x none) (sym same) (here OwnersEnd)
-      | no d ↦ let h = still n (ownerAt t p) e in (suc (h .0), ap (λ x. climb (set t a r) (h .0) (x .owner)) (elsewhere p d) ∙ h .1) ]
+      | yes same ↦ subst (λ x. Reaches (set t a r) x none) (sym same) (here OwnersEnd)
+      | no d ↦ let h = still n (ownerAt t p) e in (suc (h .0), ap (λ x. climb (set t a r) (h .0) (x .owner)) (elsewhere p d) ∙ h .1)
+    ]
 
     module _ (p : ℕ) (d : p ≢ a) where
       there-owner : Filled t p → (kindAt (set t a r) (ownerAt t p) ≡ component) ⊎ ((kindAt t p ≡ component) × (ownerAt t p ≡ none))
       there-owner f = elim (law p OwnerIsComponent f) [
-          inl c ↦ elim (ℕ-discrete (ownerAt t p) a) [
-              yes e ↦ inl (subst (λ x. kindAt (set t a r) x ≡ component) (sym e) (put (λ x. x .kind ≡ component) (s .owned p d f e)))
-            | no n ↦ inl (left (λ x. x .kind ≡ component) (ownerAt t p) n c) ]
-        | inr h ↦ inr h ]
+        | inl c ↦ elim (ℕ-discrete (ownerAt t p) a) [
+          | yes e ↦ inl (subst (λ x. kindAt (set t a r) x ≡ component) (sym e) (put (λ x. x .kind ≡ component) (s .owned p d f e)))
+          | no n ↦ inl (left (λ x. x .kind ≡ component) (ownerAt t p) n c)
+        ]
+        | inr h ↦ inr h
+      ]
 
       there-alone : kindAt t p ≡ parameter → Owns (set t a r) (ownerAt t p) component → ⊥
       there-alone k (q, low, (c, o)) = elim (ℕ-discrete q a) [
-          yes e ↦ s .no-parameter (sym (ap (λ x. x .kind) at-place) ∙ subst (λ x. kindAt (set t a r) x ≡ component) e c) p d k (sym (subst (λ x. ownerAt (set t a r) x ≡ ownerAt t p) e o) ∙ ap (λ x. x .owner) at-place)
-        | no n ↦ law p ParameterOwner k (q, subst (λ x. q < x) (length-set t a r) low, (was (λ x. x .kind ≡ component) q n c, was (λ x. x .owner ≡ ownerAt t p) q n o)) ]
+        | yes e ↦ s .no-parameter (sym (ap (λ x. x .kind) at-place) ∙ subst (λ x. kindAt (set t a r) x ≡ component) e c) p d k (sym (subst (λ x. ownerAt (set t a r) x ≡ ownerAt t p) e o) ∙ ap (λ x. x .owner) at-place)
+        | no n ↦ law p ParameterOwner k (q, subst (λ x. q < x) (length-set t a r) low, (was (λ x. x .kind ≡ component) q n c, was (λ x. x .owner ≡ ownerAt t p) q n o))
+      ]
 
       there-link : linkAt t p ≢ none → kindAt (set t a r) (linkAt t p) ≡ required
       there-link l = elim (ℕ-discrete (linkAt t p) a) [
-          yes e ↦ subst (λ x. kindAt (set t a r) x ≡ required) (sym e) (put (λ x. x .kind ≡ required) (s .linked p d e))
-        | no n ↦ left (λ x. x .kind ≡ required) (linkAt t p) n (law p LinkEnd l) ]
+        | yes e ↦ subst (λ x. kindAt (set t a r) x ≡ required) (sym e) (put (λ x. x .kind ≡ required) (s .linked p d e))
+        | no n ↦ left (λ x. x .kind ≡ required) (linkAt t p) n (law p LinkEnd l)
+      ]
 
       there-name : Filled t p → (q : ℕ) → q < p → Bears (set t a r) q (ownerAt t p) (nameAt t p) → ⊥
       there-name f q low b = elim (ℕ-discrete q a) [
-          yes e ↦
+        | yes e ↦
             let c : Bears (set t a r) a (ownerAt t p) (nameAt t p) = subst (λ x. Bears (set t a r) x (ownerAt t p) (nameAt t p)) e b in
             s .alone (subst (λ x. x .kind ≢ 0) at-place (c .filled)) p d
             (record {
               filled = f;
               owned = sym (c .owned) ∙ ap (λ x. x .owner) at-place;
-              named = sameName-sym (r .name) (nameAt t p) (subst (λ x. sameName (x .name) (nameAt t p) ≡ true) at-place (c .named)) })
-        | no n ↦ law p OwnName f q low (bore q (ownerAt t p) (nameAt t p) n b) ]
+              named = sameName-sym (r .name) (nameAt t p) (subst (λ x. sameName (x .name) (nameAt t p) ≡ true) at-place (c .named));
+            })
+        | no n ↦ law p OwnName f q low (bore q (ownerAt t p) (nameAt t p) n b)
+      ]
 
       there : (k : Rule) → Keeps k (set t a r) p
       there KnownKind = left KindKnown p d (law p KnownKind)

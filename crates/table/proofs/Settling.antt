@@ -25,7 +25,8 @@ joins-too : (t u : List Row) (p q : ℕ) → ownerAt u p ≡ ownerAt t p → own
 joins-too t u p q e f g h k j = record {
   differ = λ d. j .differ (sym e ∙ d ∙ f);
   same = ap (ownerAt u) e ∙ g ∙ j .same ∙ sym h ∙ sym (ap (ownerAt u) f);
-  inside = ap (kindAt u) (ap (ownerAt u) e ∙ g) ∙ k }
+  inside = ap (kindAt u) (ap (ownerAt u) e ∙ g) ∙ k;
+}
 
 module _ (t : List Row) (small : length t ≤ 255) (law : (p : ℕ) → KeepsAll t p) (a : ℕ) (within : a < length t) where
   pub past-all : (q : ℕ) → length t ≤ q → rowAt t q ≡ emptyRow
@@ -115,17 +116,21 @@ module _ (t : List Row) (small : length t ≤ 255) (law : (p : ℕ) → KeepsAll
           joined = λ q n l. both q (linkAt t q) (law q LinkOwners l);
           ends = let e = law (r .owner) OwnersEnd in (e .0, climb-same owners (e .0) (r .owner) ∙ e .1);
           alone = λ _ q n b. elim (cases-order q a) [
-              inl e ↦ absurd (n e)
+            | inl e ↦ absurd (n e)
             | inr w ↦ elim w [
-                inl low ↦ law a OwnName f q low (record { filled = b .filled; owned = b .owned ∙ eo; named = subst (λ x. sameName (nameAt t q) x ≡ true) en (b .named) })
-              | inr high ↦ law q OwnName (b .filled) a high (record { filled = f; owned = sym eo ∙ sym (b .owned); named = sameName-sym (nameAt t q) (nameAt t a) (subst (λ x. sameName (nameAt t q) x ≡ true) en (b .named)) }) ] ] }
+              | inl low ↦ law a OwnName f q low (record { filled = b .filled; owned = b .owned ∙ eo; named = subst (λ x. sameName (nameAt t q) x ≡ true) en (b .named) })
+              | inr high ↦ law q OwnName (b .filled) a high (record { filled = f; owned = sym eo ∙ sym (b .owned); named = sameName-sym (nameAt t q) (nameAt t a) (subst (λ x. sameName (nameAt t q) x ≡ true) en (b .named)) })
+            ]
+          ];
+        }
 
     -- the place was empty
     never : kindAt t a ≡ 0 → (n p : ℕ) → Filled t p → climb t n p ≢ a
     never z zero p f e = f (ap (kindAt t) e ∙ z)
     never z (suc n) p f e = elim (law p OwnerIsComponent f) [
-        inl c ↦ never z n (ownerAt t p) (filled (ownerAt t p) component c (omega arith)) e
-      | inr h ↦ a≢none (sym e ∙ ap (climb t n) (h .1) ∙ none-stays n) ]
+      | inl c ↦ never z n (ownerAt t p) (filled (ownerAt t p) component c (omega arith)) e
+      | inr h ↦ a≢none (sym e ∙ ap (climb t n) (h .1) ∙ none-stays n)
+    ]
 
     pub filling : kindAt t a ≡ 0 → r .kind ≤ 4 → r .kind ≢ 0 → FieldsFit r → IsName (r .name) → (r .kind ≡ parameter → InRange (r .lo) (r .hi) (r .value)) → r .link ≡ none → (kindAt t (r .owner) ≡ component) ⊎ ((r .kind ≡ component) × (r .owner ≡ none)) → (r .kind ≡ parameter → Owns t (r .owner) component → ⊥) → (r .kind ≡ component → r .owner ≡ none) → (Borne t (length t) a (r .owner) (r .name) → ⊥) → Settles t a r
     filling z few f fields name range l owner no-component no-parameter free =
@@ -150,7 +155,8 @@ module _ (t : List Row) (small : length t ≤ 255) (law : (p : ℕ) → KeepsAll
               joined-apart q n m (far _ required w (omega arith)) (far _ component (owner-of q provided p (omega arith) (omega arith)) one) (far _ component (owner-of _ required w (omega arith) (omega arith)) one)
               (ap (λ x. x .kind) (elsewhere t a within r _ (far _ component inside one)) ∙ inside);
           ends = elim owner [ inl c ↦ ends-apart (r .owner) (λ h. never z (h .0) (r .owner) (filled _ component c one) (h .1)) | inr h ↦ (0, h .1) ];
-          alone = λ _ q n b. free (q, inside-kind q (b .filled), (n, b)) }
+          alone = λ _ q n b. free (q, inside-kind q (b .filled), (n, b));
+        }
 
   -- a component gets another owner
   module _ (o : ℕ) where
@@ -176,7 +182,8 @@ module _ (t : List Row) (small : length t ≤ 255) (law : (p : ℕ) → KeepsAll
           joined = λ q n m.
               joined-apart r q n m (apart _ a required component (law q LinkEnd m) c (omega arith)) (unlinked q m .0) (unlinked q m .1) (kinds _ ∙ law q LinkOwners m .inside);
           ends = ends;
-          alone = λ _ q n b. free (q, inside-kind q (b .filled), (n, b)) }
+          alone = λ _ q n b. free (q, inside-kind q (b .filled), (n, b));
+        }
 
   -- the row goes
   pub emptied : (OwnsAnother t a → ⊥) → (LinkOfAnother t a → ⊥) → Settles t a emptyRow
@@ -204,4 +211,5 @@ module _ (t : List Row) (small : length t ≤ 255) (law : (p : ℕ) → KeepsAll
             joined-apart emptyRow q n m (not q n) o (far _ (not q n) (filled _ required w (omega arith)))
             (ap (λ x. x .kind) (elsewhere t a within emptyRow _ (far _ o (filled _ component c (omega arith)))) ∙ inside);
         ends = (0, refl);
-        alone = λ n. absurd (n refl) }
+        alone = λ n. absurd (n refl);
+      }

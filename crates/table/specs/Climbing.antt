@@ -56,8 +56,12 @@ pigeons (suc m) f h = go (pigeons m) (some? (λ i. f i ≡ f (suc m)) (λ i. ℕ
     apart fewer none =
         let r : Repeat (λ i. moved (f (suc m)) m (f i)) m = fewer (λ i. moved (f (suc m)) m (f i)) (λ i k. moved-low (f (suc m)) m (f i) (h (suc m) (omega arith)) (h i (omega arith)) (λ e. none (i, omega arith, e))) in
         record {
-          i = r .i; j = r .j; less = r .less; within = omega (arith, r .within);
-          same = moved-same (f (suc m)) m (f (r .i)) (f (r .j)) (λ e. none (r .i, omega (arith, r .less, r .within), e)) (λ e. none (r .j, omega (arith, r .within), e)) (r .same) }
+          i = r .i;
+          j = r .j;
+          less = r .less;
+          within = omega (arith, r .within);
+          same = moved-same (f (suc m)) m (f (r .i)) (f (r .j)) (λ e. none (r .i, omega (arith, r .less, r .within), e)) (λ e. none (r .j, omega (arith, r .within), e)) (r .same);
+        }
 
     go : ((g : ℕ → ℕ) → ((i : ℕ) → i ≤ m → g i < m) → Repeat g m) → Dec ((i : ℕ) × (i < suc m) × (f i ≡ f (suc m))) → Repeat f (suc m)
     go fewer (yes x) = record { i = x .0; j = suc m; less = x .1; within = omega arith; same = x .2 }
@@ -81,10 +85,15 @@ module _ (t : List Row) where
     where
       go : Repeat (λ i. min (climb t i p) (length t)) (length t + 1) → Repeat (λ i. climb t i p) (length t + 2)
       go r = elim (ltOrGe (climb t (r .i) p) (length t)) [
-          inl low ↦ record { i = r .i; j = r .j; less = r .less; within = omega (arith, r .within); same = omega (arith, r .same) }
+        | inl low ↦ record { i = r .i; j = r .j; less = r .less; within = omega (arith, r .within); same = omega (arith, r .same) }
         | inr high ↦ record {
-            i = suc (r .i); j = suc (r .j); less = omega (arith, r .less); within = omega (arith, r .within);
-            same = climb-last (r .i) p ∙ owner-past _ high ∙ sym (climb-last (r .j) p ∙ owner-past _ (omega (arith, r .same))) } ]
+          i = suc (r .i);
+          j = suc (r .j);
+          less = omega (arith, r .less);
+          within = omega (arith, r .within);
+          same = climb-last (r .i) p ∙ owner-past _ high ∙ sym (climb-last (r .j) p ∙ owner-past _ (omega (arith, r .same)));
+        }
+      ]
 
   -- a climb that has met a place twice goes on as the shorter one does
   cut : (n p : ℕ) (r : Repeat (λ i. climb t i p) n) → climb t (r .i + (n - r .j)) p ≡ climb t n p
@@ -95,11 +104,12 @@ module _ (t : List Row) where
   fewer : (fuel n p g : ℕ) → n ≤ fuel → climb t n p ≡ g → (m : ℕ) × (m < length t + 2) × (climb t m p ≡ g)
   fewer zero n p g h e = (n, omega arith, e)
   fewer (suc fuel) n p g h e = elim (ltOrGe n (length t + 2)) [
-      inl low ↦ (n, low, e)
+    | inl low ↦ (n, low, e)
     | inr high ↦
         let r = twice p in
         let s : Repeat (λ i. climb t i p) n = record { i = r .i; j = r .j; less = r .less; within = omega (arith, r .within); same = r .same } in
-        fewer fuel (s .i + (n - s .j)) p g (omega (arith, s .less, s .within)) (cut n p s ∙ e) ]
+        fewer fuel (s .i + (n - s .j)) p g (omega (arith, s .less, s .within)) (cut n p s ∙ e)
+  ]
 
   -- where a climb comes at all it comes soon
   pub soon : (p g : ℕ) → Reaches t p g → (m : ℕ) × (m < length t + 2) × (climb t m p ≡ g)

@@ -23,7 +23,6 @@ pub record Condition : Type 1 where
 infixr 40 _or_
 infixr 50 _and_
 infixl 60 _is_ _isnt_ _upto_
-
 abbrev pub never : Condition
 never = record { holds = ⊥; told = no (λ h. h) }
 

@@ -156,15 +156,15 @@ first ((c, e) ∷ rest) = refuseIf (c .told) e (first rest)
 unfoldable pub refusal : List Row → Step → Option Refusal
 refusal t s =
     first (
-      (beyond t s, BeyondCapacity) ∷
-      (wrongRows t s, WrongRow) ∷
-      (outOfRange t s, OutOfRange) ∷
-      (tied t s, Tied) ∷
-      (running t s, Running) ∷
-      (inUse t s, InUse) ∷
-      (loop t s, OwnerLoop) ∷
-      (taken t s, NameTaken) ∷
-      [])
+    (beyond t s, BeyondCapacity) ∷
+    (wrongRows t s, WrongRow) ∷
+    (outOfRange t s, OutOfRange) ∷
+    (tied t s, Tied) ∷
+    (running t s, Running) ∷
+    (inUse t s, InUse) ∷
+    (loop t s, OwnerLoop) ∷
+    (taken t s, NameTaken) ∷
+    [])
 
 -- the rows of a table with one component, interface or parameter more or changed
 abbrev pub fresh : ℕ → ℕ → ℕ → Row

@@ -54,7 +54,9 @@ fn is_linked_interface<H: Host>(host: &H, owner: u8, q: u8) -> bool
     ensures { λ r. ⌜ Decides r (LinkedInterface (H·Host .rows (now (host .entry))) owner q) ⌝ }
 {
     let row = row_at(host, q);
-    row.owner == owner && (row.kind == PROVIDED || row.kind == REQUIRED) && (row.link != NONE || link_of_another(host, q))
+    row.owner == owner
+        && (row.kind == PROVIDED || row.kind == REQUIRED)
+        && (row.link != NONE || link_of_another(host, q))
 }
 
 /// Whether an interface of the row at `place` has a link or is another's link.

@@ -33,10 +33,10 @@ fn is_beyond<H: Host>(host: &H, step: Step) -> bool
 {
     let end = host.capacity();
     match step {
-        Step::New { at, name: _ } => end <= at,
-        Step::Provide { at, owner, name: _ } => end <= at || end <= owner,
-        Step::Require { at, owner, name: _ } => end <= at || end <= owner,
-        Step::Parameter { at, owner, name: _, lo: _, hi: _, value: _ } => end <= at || end <= owner,
+        Step::New { at, .. } => end <= at,
+        Step::Provide { at, owner, .. } => end <= at || end <= owner,
+        Step::Require { at, owner, .. } => end <= at || end <= owner,
+        Step::Parameter { at, owner, .. } => end <= at || end <= owner,
         Step::Delete { at } => end <= at,
         Step::Add { at, owner } => end <= at || end <= owner,
         Step::Remove { at } => end <= at,
@@ -44,7 +44,7 @@ fn is_beyond<H: Host>(host: &H, step: Step) -> bool
         Step::Unbind { at } => end <= at,
         Step::Start { at } => end <= at,
         Step::Stop { at } => end <= at,
-        Step::Set { at, value: _ } => end <= at,
+        Step::Set { at, .. } => end <= at,
     }
 }
 
@@ -60,20 +60,23 @@ fn has_wrong_rows<H: Host>(host: &H, step: Step) -> bool
     ensures { λ r. ⌜ Decides r (wrongRows (H·Host .rows (now (host .entry))) step .holds) ⌝ }
 {
     match step {
-        Step::New { at, name: _ } => kind_at(host, at) != 0,
-        Step::Provide { at, owner, name: _ } => kind_at(host, at) != 0 || kind_at(host, owner) != COMPONENT,
-        Step::Require { at, owner, name: _ } => kind_at(host, at) != 0 || kind_at(host, owner) != COMPONENT,
-        Step::Parameter { at, owner, name: _, lo: _, hi: _, value: _ } => {
+        Step::New { at, .. } => kind_at(host, at) != 0,
+        Step::Provide { at, owner, .. } => kind_at(host, at) != 0
+            || kind_at(host, owner) != COMPONENT,
+        Step::Require { at, owner, .. } => kind_at(host, at) != 0
+            || kind_at(host, owner) != COMPONENT,
+        Step::Parameter { at, owner, .. } => {
             kind_at(host, at) != 0 || kind_at(host, owner) != COMPONENT
         }
         Step::Delete { at } => kind_at(host, at) == 0,
-        Step::Add { at, owner } => kind_at(host, at) != COMPONENT || kind_at(host, owner) != COMPONENT,
+        Step::Add { at, owner } => kind_at(host, at) != COMPONENT
+            || kind_at(host, owner) != COMPONENT,
         Step::Remove { at } => kind_at(host, at) != COMPONENT,
         Step::Bind { at, to } => kind_at(host, at) != PROVIDED || kind_at(host, to) != REQUIRED,
         Step::Unbind { at } => kind_at(host, at) != PROVIDED,
         Step::Start { at } => kind_at(host, at) != COMPONENT,
         Step::Stop { at } => kind_at(host, at) != COMPONENT,
-        Step::Set { at, value: _ } => kind_at(host, at) != PARAMETER,
+        Step::Set { at, .. } => kind_at(host, at) != PARAMETER,
     }
 }
 
@@ -89,17 +92,23 @@ fn is_out_of_range<H: Host>(host: &H, step: Step) -> bool
     ensures { λ r. ⌜ Decides r (outOfRange (H·Host .rows (now (host .entry))) step .holds) ⌝ }
 {
     match step {
-        Step::New { at: _, name } => !is_name(name),
-        Step::Provide { at: _, owner: _, name } => !is_name(name),
-        Step::Require { at: _, owner: _, name } => !is_name(name),
-        Step::Parameter { at: _, owner: _, name, lo, hi, value } => !is_sound(name, lo, hi, value),
-        Step::Delete { at: _ } => false,
-        Step::Add { at: _, owner: _ } => false,
-        Step::Remove { at: _ } => false,
-        Step::Bind { at: _, to: _ } => false,
-        Step::Unbind { at: _ } => false,
-        Step::Start { at: _ } => false,
-        Step::Stop { at: _ } => false,
+        Step::New { name, .. } => !is_name(name),
+        Step::Provide { name, .. } => !is_name(name),
+        Step::Require { name, .. } => !is_name(name),
+        Step::Parameter {
+            name,
+            lo,
+            hi,
+            value,
+            ..
+        } => !is_sound(name, lo, hi, value),
+        Step::Delete { .. } => false,
+        Step::Add { .. } => false,
+        Step::Remove { .. } => false,
+        Step::Bind { .. } => false,
+        Step::Unbind { .. } => false,
+        Step::Start { .. } => false,
+        Step::Stop { .. } => false,
         Step::Set { at, value } => is_outside(host, at, value),
     }
 }
@@ -117,18 +126,18 @@ fn is_tied<H: Host>(host: &H, step: Step) -> bool
     ensures { λ r. ⌜ Decides r (tied (H·Host .rows (now (host .entry))) step .holds) ⌝ }
 {
     match step {
-        Step::New { at: _, name: _ } => false,
-        Step::Provide { at: _, owner: _, name: _ } => false,
-        Step::Require { at: _, owner: _, name: _ } => false,
-        Step::Parameter { at: _, owner, name: _, lo: _, hi: _, value: _ } => owns(host, owner, COMPONENT),
-        Step::Delete { at: _ } => false,
+        Step::New { .. } => false,
+        Step::Provide { .. } => false,
+        Step::Require { .. } => false,
+        Step::Parameter { owner, .. } => owns(host, owner, COMPONENT),
+        Step::Delete { .. } => false,
         Step::Add { at, owner } => row_at(host, at).owner != NONE || owns(host, owner, PARAMETER),
         Step::Remove { at } => row_at(host, at).owner == NONE,
         Step::Bind { at, to } => row_at(host, at).link != NONE || !joinable(host, at, to),
         Step::Unbind { at } => row_at(host, at).link == NONE,
-        Step::Start { at: _ } => false,
-        Step::Stop { at: _ } => false,
-        Step::Set { at: _, value: _ } => false,
+        Step::Start { .. } => false,
+        Step::Stop { .. } => false,
+        Step::Set { .. } => false,
     }
 }
 
@@ -151,18 +160,19 @@ fn is_running<H: Host>(host: &H, step: Step) -> bool
     ensures { λ r. ⌜ Decides r (running (H·Host .rows (now (host .entry))) step .holds) ⌝ }
 {
     match step {
-        Step::New { at: _, name: _ } => false,
-        Step::Provide { at: _, owner, name: _ } => is_started(host, owner),
-        Step::Require { at: _, owner, name: _ } => is_started(host, owner),
-        Step::Parameter { at: _, owner, name: _, lo: _, hi: _, value: _ } => is_started(host, owner),
-        Step::Delete { at } => is_started(host, at) || (kind_at(host, at) != COMPONENT && is_owner_started(host, at)),
-        Step::Add { at: _, owner } => is_started(host, owner),
+        Step::New { .. } => false,
+        Step::Provide { owner, .. } => is_started(host, owner),
+        Step::Require { owner, .. } => is_started(host, owner),
+        Step::Parameter { owner, .. } => is_started(host, owner),
+        Step::Delete { at } => is_started(host, at)
+            || (kind_at(host, at) != COMPONENT && is_owner_started(host, at)),
+        Step::Add { owner, .. } => is_started(host, owner),
         Step::Remove { at } => is_owner_started(host, at),
-        Step::Bind { at: _, to } => is_owner_started(host, to),
+        Step::Bind { to, .. } => is_owner_started(host, to),
         Step::Unbind { at } => is_owner_started(host, row_at(host, at).link),
-        Step::Start { at: _ } => false,
-        Step::Stop { at: _ } => false,
-        Step::Set { at: _, value: _ } => false,
+        Step::Start { .. } => false,
+        Step::Stop { .. } => false,
+        Step::Set { .. } => false,
     }
 }
 
@@ -189,18 +199,18 @@ fn is_in_use<H: Host>(host: &H, step: Step) -> bool
     ensures { λ r. ⌜ Decides r (inUse (H·Host .rows (now (host .entry))) step .holds) ⌝ }
 {
     match step {
-        Step::New { at: _, name: _ } => false,
-        Step::Provide { at: _, owner: _, name: _ } => false,
-        Step::Require { at: _, owner: _, name: _ } => false,
-        Step::Parameter { at: _, owner: _, name: _, lo: _, hi: _, value: _ } => false,
+        Step::New { .. } => false,
+        Step::Provide { .. } => false,
+        Step::Require { .. } => false,
+        Step::Parameter { .. } => false,
         Step::Delete { at } => is_joined(host, at),
-        Step::Add { at: _, owner: _ } => false,
+        Step::Add { .. } => false,
         Step::Remove { at } => interface_linked(host, at),
-        Step::Bind { at: _, to: _ } => false,
-        Step::Unbind { at: _ } => false,
-        Step::Start { at: _ } => false,
-        Step::Stop { at: _ } => false,
-        Step::Set { at: _, value: _ } => false,
+        Step::Bind { .. } => false,
+        Step::Unbind { .. } => false,
+        Step::Start { .. } => false,
+        Step::Stop { .. } => false,
+        Step::Set { .. } => false,
     }
 }
 
@@ -209,18 +219,18 @@ fn makes_loop<H: Host>(host: &H, step: Step) -> bool
     ensures { λ r. ⌜ Decides r (loop (H·Host .rows (now (host .entry))) step .holds) ⌝ }
 {
     match step {
-        Step::New { at: _, name: _ } => false,
-        Step::Provide { at: _, owner: _, name: _ } => false,
-        Step::Require { at: _, owner: _, name: _ } => false,
-        Step::Parameter { at: _, owner: _, name: _, lo: _, hi: _, value: _ } => false,
-        Step::Delete { at: _ } => false,
+        Step::New { .. } => false,
+        Step::Provide { .. } => false,
+        Step::Require { .. } => false,
+        Step::Parameter { .. } => false,
+        Step::Delete { .. } => false,
         Step::Add { at, owner } => reaches(host, owner, at),
-        Step::Remove { at: _ } => false,
-        Step::Bind { at: _, to: _ } => false,
-        Step::Unbind { at: _ } => false,
-        Step::Start { at: _ } => false,
-        Step::Stop { at: _ } => false,
-        Step::Set { at: _, value: _ } => false,
+        Step::Remove { .. } => false,
+        Step::Bind { .. } => false,
+        Step::Unbind { .. } => false,
+        Step::Start { .. } => false,
+        Step::Stop { .. } => false,
+        Step::Set { .. } => false,
     }
 }
 
@@ -233,15 +243,20 @@ fn is_taken<H: Host>(host: &H, step: Step) -> bool
         Step::New { at, name } => borne(host, end, at, NONE, name),
         Step::Provide { at, owner, name } => borne(host, end, at, owner, name),
         Step::Require { at, owner, name } => borne(host, end, at, owner, name),
-        Step::Parameter { at, owner, name, lo: _, hi: _, value: _ } => borne(host, end, at, owner, name),
-        Step::Delete { at: _ } => false,
+        Step::Parameter {
+            at,
+            owner,
+            name,
+            ..
+        } => borne(host, end, at, owner, name),
+        Step::Delete { .. } => false,
         Step::Add { at, owner } => borne(host, end, at, owner, row_at(host, at).name),
         Step::Remove { at } => borne(host, end, at, NONE, row_at(host, at).name),
-        Step::Bind { at: _, to: _ } => false,
-        Step::Unbind { at: _ } => false,
-        Step::Start { at: _ } => false,
-        Step::Stop { at: _ } => false,
-        Step::Set { at: _, value: _ } => false,
+        Step::Bind { .. } => false,
+        Step::Unbind { .. } => false,
+        Step::Start { .. } => false,
+        Step::Stop { .. } => false,
+        Step::Set { .. } => false,
     }
 }
 

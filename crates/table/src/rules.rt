@@ -22,7 +22,13 @@ fn kind_known(row: Row) -> bool
     ensures { λ r. ⌜ Decides r (KindKnown row) ⌝ }
 {
     if row.kind == 0 {
-        row.name == 0 && row.owner == NONE && row.link == NONE && row.up == 0 && row.lo == 0 && row.hi == 0 && row.value == 0
+        row.name == 0
+            && row.owner == NONE
+            && row.link == NONE
+            && row.up == 0
+            && row.lo == 0
+            && row.hi == 0
+            && row.value == 0
     } else {
         row.kind <= 4
     }

@@ -19,18 +19,18 @@ fn target_of(step: Step) -> u8
     ensures { λ r. ⌜ r ≡ target step ⌝ }
 {
     match step {
-        Step::New { at, name: _ } => at,
-        Step::Provide { at, owner: _, name: _ } => at,
-        Step::Require { at, owner: _, name: _ } => at,
-        Step::Parameter { at, owner: _, name: _, lo: _, hi: _, value: _ } => at,
+        Step::New { at, .. } => at,
+        Step::Provide { at, .. } => at,
+        Step::Require { at, .. } => at,
+        Step::Parameter { at, .. } => at,
         Step::Delete { at } => at,
-        Step::Add { at, owner: _ } => at,
+        Step::Add { at, .. } => at,
         Step::Remove { at } => at,
-        Step::Bind { at, to: _ } => at,
+        Step::Bind { at, .. } => at,
         Step::Unbind { at } => at,
         Step::Start { at } => at,
         Step::Stop { at } => at,
-        Step::Set { at, value: _ } => at,
+        Step::Set { at, .. } => at,
     }
 }
 
@@ -38,7 +38,12 @@ fn target_of(step: Step) -> u8
 fn fresh_row(kind: u8, owner: u8, name: u64) -> Row
     ensures { λ r. ⌜ r ≡ fresh kind owner name ⌝ }
 {
-    Row { kind, name, owner, ..EMPTY }
+    Row {
+        kind,
+        name,
+        owner,
+        ..EMPTY
+    }
 }
 
 /// The row that a step puts in place of a row.
@@ -46,18 +51,33 @@ fn row_after(step: Step, row: Row) -> Row
     ensures { λ r. ⌜ r ≡ rowAfter step row ⌝ }
 {
     match step {
-        Step::New { at: _, name } => fresh_row(COMPONENT, NONE, name),
-        Step::Provide { at: _, owner, name } => fresh_row(PROVIDED, owner, name),
-        Step::Require { at: _, owner, name } => fresh_row(REQUIRED, owner, name),
-        Step::Parameter { at: _, owner, name, lo, hi, value } => Row { kind: PARAMETER, name, owner, lo, hi, value, ..EMPTY },
-        Step::Delete { at: _ } => EMPTY,
-        Step::Add { at: _, owner } => Row { owner, ..row },
-        Step::Remove { at: _ } => Row { owner: NONE, ..row },
-        Step::Bind { at: _, to } => Row { link: to, ..row },
-        Step::Unbind { at: _ } => Row { link: NONE, ..row },
-        Step::Start { at: _ } => Row { up: 1, ..row },
-        Step::Stop { at: _ } => Row { up: 0, ..row },
-        Step::Set { at: _, value } => Row { value, ..row },
+        Step::New { name, .. } => fresh_row(COMPONENT, NONE, name),
+        Step::Provide { owner, name, .. } => fresh_row(PROVIDED, owner, name),
+        Step::Require { owner, name, .. } => fresh_row(REQUIRED, owner, name),
+        Step::Parameter {
+            owner,
+            name,
+            lo,
+            hi,
+            value,
+            ..
+        } => Row {
+            kind: PARAMETER,
+            name,
+            owner,
+            lo,
+            hi,
+            value,
+            ..EMPTY
+        },
+        Step::Delete { .. } => EMPTY,
+        Step::Add { owner, .. } => Row { owner, ..row },
+        Step::Remove { .. } => Row { owner: NONE, ..row },
+        Step::Bind { to, .. } => Row { link: to, ..row },
+        Step::Unbind { .. } => Row { link: NONE, ..row },
+        Step::Start { .. } => Row { up: 1, ..row },
+        Step::Stop { .. } => Row { up: 0, ..row },
+        Step::Set { value, .. } => Row { value, ..row },
     }
 }
 

@@ -16,13 +16,21 @@ use table::try_step;
 
 // names of one or three letters
 const T: u64 = 0x5400_0000_0000_0000;
+
 const A: u64 = 0x4100_0000_0000_0000;
+
 const B: u64 = 0x4200_0000_0000_0000;
+
 const C: u64 = 0x4300_0000_0000_0000;
+
 const P: u64 = 0x5000_0000_0000_0000;
+
 const Q: u64 = 0x5100_0000_0000_0000;
+
 const R: u64 = 0x5200_0000_0000_0000;
+
 const LEN: u64 = 0x6c65_6e00_0000_0000;
+
 const BUF: u64 = 0x6275_6600_0000_0000;
 /// no name
 const BLANK: u64 = 0x2000_0000_0000_0000;
@@ -43,7 +51,13 @@ fn number(answer: Result<(), Refusal>) -> u8 {
 static RUNS: [Run; 138] = [
     // new: a component, and 2, 3, 10, 11 in their order
     Run(Step::New { at: 0, name: T }, 0),
-    Run(Step::New { at: 255, name: BLANK }, 2),
+    Run(
+        Step::New {
+            at: 255,
+            name: BLANK,
+        },
+        2,
+    ),
     Run(Step::New { at: 0, name: BLANK }, 3),
     Run(Step::New { at: 1, name: BLANK }, 10),
     Run(Step::New { at: 1, name: T }, 11),
@@ -67,45 +81,314 @@ static RUNS: [Run; 138] = [
     Run(Step::Add { at: 9, owner: 0 }, 11),
     Run(Step::Delete { at: 9 }, 0),
     // prov and req: interfaces of A and B, and 2, 3, 10, 12, 11
-    Run(Step::Provide { at: 3, owner: 1, name: P }, 0),
-    Run(Step::Require { at: 4, owner: 2, name: R }, 0),
-    Run(Step::Provide { at: 255, owner: 1, name: P }, 2),
-    Run(Step::Provide { at: 9, owner: 255, name: P }, 2),
-    Run(Step::Provide { at: 3, owner: 1, name: BLANK }, 3),
-    Run(Step::Provide { at: 9, owner: 4, name: P }, 3),
-    Run(Step::Provide { at: 9, owner: 1, name: BLANK }, 10),
-    Run(Step::Provide { at: 9, owner: 1, name: P }, 11),
-    Run(Step::Require { at: 255, owner: 2, name: R }, 2),
-    Run(Step::Require { at: 9, owner: 255, name: R }, 2),
-    Run(Step::Require { at: 4, owner: 2, name: BLANK }, 3),
-    Run(Step::Require { at: 9, owner: 3, name: R }, 3),
-    Run(Step::Require { at: 9, owner: 2, name: BLANK }, 10),
-    Run(Step::Require { at: 9, owner: 2, name: R }, 11),
+    Run(
+        Step::Provide {
+            at: 3,
+            owner: 1,
+            name: P,
+        },
+        0,
+    ),
+    Run(
+        Step::Require {
+            at: 4,
+            owner: 2,
+            name: R,
+        },
+        0,
+    ),
+    Run(
+        Step::Provide {
+            at: 255,
+            owner: 1,
+            name: P,
+        },
+        2,
+    ),
+    Run(
+        Step::Provide {
+            at: 9,
+            owner: 255,
+            name: P,
+        },
+        2,
+    ),
+    Run(
+        Step::Provide {
+            at: 3,
+            owner: 1,
+            name: BLANK,
+        },
+        3,
+    ),
+    Run(
+        Step::Provide {
+            at: 9,
+            owner: 4,
+            name: P,
+        },
+        3,
+    ),
+    Run(
+        Step::Provide {
+            at: 9,
+            owner: 1,
+            name: BLANK,
+        },
+        10,
+    ),
+    Run(
+        Step::Provide {
+            at: 9,
+            owner: 1,
+            name: P,
+        },
+        11,
+    ),
+    Run(
+        Step::Require {
+            at: 255,
+            owner: 2,
+            name: R,
+        },
+        2,
+    ),
+    Run(
+        Step::Require {
+            at: 9,
+            owner: 255,
+            name: R,
+        },
+        2,
+    ),
+    Run(
+        Step::Require {
+            at: 4,
+            owner: 2,
+            name: BLANK,
+        },
+        3,
+    ),
+    Run(
+        Step::Require {
+            at: 9,
+            owner: 3,
+            name: R,
+        },
+        3,
+    ),
+    Run(
+        Step::Require {
+            at: 9,
+            owner: 2,
+            name: BLANK,
+        },
+        10,
+    ),
+    Run(
+        Step::Require {
+            at: 9,
+            owner: 2,
+            name: R,
+        },
+        11,
+    ),
     Run(Step::Start { at: 1 }, 0),
-    Run(Step::Provide { at: 9, owner: 1, name: P }, 12),
-    Run(Step::Require { at: 9, owner: 1, name: R }, 12),
-    Run(Step::Provide { at: 9, owner: 1, name: BLANK }, 10),
+    Run(
+        Step::Provide {
+            at: 9,
+            owner: 1,
+            name: P,
+        },
+        12,
+    ),
+    Run(
+        Step::Require {
+            at: 9,
+            owner: 1,
+            name: R,
+        },
+        12,
+    ),
+    Run(
+        Step::Provide {
+            at: 9,
+            owner: 1,
+            name: BLANK,
+        },
+        10,
+    ),
     Run(Step::Stop { at: 1 }, 0),
     // par: a parameter of A, and 2, 3, 10, 13, 12, 11
-    Run(Step::Parameter { at: 5, owner: 1, name: LEN, lo: 0, hi: 4096, value: 512 }, 0),
-    Run(Step::Parameter { at: 255, owner: 1, name: LEN, lo: 0, hi: 4096, value: 512 }, 2),
-    Run(Step::Parameter { at: 9, owner: 255, name: LEN, lo: 0, hi: 4096, value: 512 }, 2),
-    Run(Step::Parameter { at: 5, owner: 1, name: BLANK, lo: 0, hi: 4096, value: 512 }, 3),
-    Run(Step::Parameter { at: 9, owner: 5, name: LEN, lo: 0, hi: 4096, value: 512 }, 3),
-    Run(Step::Parameter { at: 9, owner: 1, name: BLANK, lo: 0, hi: 4096, value: 512 }, 10),
-    Run(Step::Parameter { at: 9, owner: 0, name: LEN, lo: 0, hi: 9, value: 10 }, 10),
-    Run(Step::Parameter { at: 9, owner: 1, name: LEN, lo: -1000001, hi: 9, value: 9 }, 10),
-    Run(Step::Parameter { at: 9, owner: 1, name: LEN, lo: 0, hi: 1000001, value: 9 }, 10),
-    Run(Step::Parameter { at: 9, owner: 1, name: LEN, lo: 1, hi: 9, value: 0 }, 10),
-    Run(Step::Parameter { at: 9, owner: 0, name: BUF, lo: 0, hi: 4096, value: 512 }, 13),
-    Run(Step::Parameter { at: 9, owner: 1, name: LEN, lo: 0, hi: 4096, value: 512 }, 11),
+    Run(
+        Step::Parameter {
+            at: 5,
+            owner: 1,
+            name: LEN,
+            lo: 0,
+            hi: 4096,
+            value: 512,
+        },
+        0,
+    ),
+    Run(
+        Step::Parameter {
+            at: 255,
+            owner: 1,
+            name: LEN,
+            lo: 0,
+            hi: 4096,
+            value: 512,
+        },
+        2,
+    ),
+    Run(
+        Step::Parameter {
+            at: 9,
+            owner: 255,
+            name: LEN,
+            lo: 0,
+            hi: 4096,
+            value: 512,
+        },
+        2,
+    ),
+    Run(
+        Step::Parameter {
+            at: 5,
+            owner: 1,
+            name: BLANK,
+            lo: 0,
+            hi: 4096,
+            value: 512,
+        },
+        3,
+    ),
+    Run(
+        Step::Parameter {
+            at: 9,
+            owner: 5,
+            name: LEN,
+            lo: 0,
+            hi: 4096,
+            value: 512,
+        },
+        3,
+    ),
+    Run(
+        Step::Parameter {
+            at: 9,
+            owner: 1,
+            name: BLANK,
+            lo: 0,
+            hi: 4096,
+            value: 512,
+        },
+        10,
+    ),
+    Run(
+        Step::Parameter {
+            at: 9,
+            owner: 0,
+            name: LEN,
+            lo: 0,
+            hi: 9,
+            value: 10,
+        },
+        10,
+    ),
+    Run(
+        Step::Parameter {
+            at: 9,
+            owner: 1,
+            name: LEN,
+            lo: -1000001,
+            hi: 9,
+            value: 9,
+        },
+        10,
+    ),
+    Run(
+        Step::Parameter {
+            at: 9,
+            owner: 1,
+            name: LEN,
+            lo: 0,
+            hi: 1000001,
+            value: 9,
+        },
+        10,
+    ),
+    Run(
+        Step::Parameter {
+            at: 9,
+            owner: 1,
+            name: LEN,
+            lo: 1,
+            hi: 9,
+            value: 0,
+        },
+        10,
+    ),
+    Run(
+        Step::Parameter {
+            at: 9,
+            owner: 0,
+            name: BUF,
+            lo: 0,
+            hi: 4096,
+            value: 512,
+        },
+        13,
+    ),
+    Run(
+        Step::Parameter {
+            at: 9,
+            owner: 1,
+            name: LEN,
+            lo: 0,
+            hi: 4096,
+            value: 512,
+        },
+        11,
+    ),
     Run(Step::Start { at: 0 }, 0),
-    Run(Step::Parameter { at: 9, owner: 0, name: BUF, lo: 0, hi: 4096, value: 512 }, 13),
+    Run(
+        Step::Parameter {
+            at: 9,
+            owner: 0,
+            name: BUF,
+            lo: 0,
+            hi: 4096,
+            value: 512,
+        },
+        13,
+    ),
     Run(Step::Stop { at: 0 }, 0),
     Run(Step::Start { at: 1 }, 0),
-    Run(Step::Parameter { at: 9, owner: 1, name: LEN, lo: 0, hi: 4096, value: 512 }, 12),
+    Run(
+        Step::Parameter {
+            at: 9,
+            owner: 1,
+            name: LEN,
+            lo: 0,
+            hi: 4096,
+            value: 512,
+        },
+        12,
+    ),
     Run(Step::Stop { at: 1 }, 0),
-    Run(Step::Parameter { at: 9, owner: 1, name: BUF, lo: -1000000, hi: 1000000, value: 0 }, 0),
+    Run(
+        Step::Parameter {
+            at: 9,
+            owner: 1,
+            name: BUF,
+            lo: -1000000,
+            hi: 1000000,
+            value: 0,
+        },
+        0,
+    ),
     Run(Step::Delete { at: 9 }, 0),
     // set: up to hi, and 2, 3, 10
     Run(Step::Set { at: 5, value: 4096 }, 0),
@@ -127,7 +410,14 @@ static RUNS: [Run; 138] = [
     Run(Step::Bind { at: 3, to: 255 }, 2),
     Run(Step::Bind { at: 4, to: 3 }, 3),
     Run(Step::Bind { at: 3, to: 5 }, 3),
-    Run(Step::Require { at: 9, owner: 1, name: Q }, 0),
+    Run(
+        Step::Require {
+            at: 9,
+            owner: 1,
+            name: Q,
+        },
+        0,
+    ),
     Run(Step::Bind { at: 3, to: 9 }, 13),
     Run(Step::Delete { at: 9 }, 0),
     Run(Step::Start { at: 2 }, 0),
@@ -203,7 +493,12 @@ fn steps_run() -> Result<(), Fail> {
 }
 
 fn component(name: u64, owner: u8) -> Row {
-    Row { kind: COMPONENT, name, owner, ..EMPTY }
+    Row {
+        kind: COMPONENT,
+        name,
+        owner,
+        ..EMPTY
+    }
 }
 
 /// A lawful table but for one row: the component T (0) with A (1) and B (2), P of A (3) bound to R of B (4), len of A (5).
@@ -212,9 +507,36 @@ fn with(place: u8, row: Row) -> Plain {
     let _ = host.write(0, component(T, NONE));
     let _ = host.write(1, component(A, 0));
     let _ = host.write(2, component(B, 0));
-    let _ = host.write(3, Row { kind: PROVIDED, name: P, owner: 1, link: 4, ..EMPTY });
-    let _ = host.write(4, Row { kind: REQUIRED, name: R, owner: 2, ..EMPTY });
-    let _ = host.write(5, Row { kind: PARAMETER, name: LEN, owner: 1, hi: 9, value: 9, ..EMPTY });
+    let _ = host.write(
+        3,
+        Row {
+            kind: PROVIDED,
+            name: P,
+            owner: 1,
+            link: 4,
+            ..EMPTY
+        },
+    );
+    let _ = host.write(
+        4,
+        Row {
+            kind: REQUIRED,
+            name: R,
+            owner: 2,
+            ..EMPTY
+        },
+    );
+    let _ = host.write(
+        5,
+        Row {
+            kind: PARAMETER,
+            name: LEN,
+            owner: 1,
+            hi: 9,
+            value: 9,
+            ..EMPTY
+        },
+    );
     let _ = host.write(place, row);
     host
 }
@@ -237,13 +559,46 @@ fn breaches_found() -> Result<(), Fail> {
         Case(9, EMPTY, NONE, 0),
         Case(9, Row { kind: 5, ..EMPTY }, 9, 1),
         Case(9, Row { up: 1, ..EMPTY }, 9, 1),
-        Case(4, Row { kind: REQUIRED, name: R, owner: 2, link: 3, ..EMPTY }, 4, 2),
+        Case(
+            4,
+            Row {
+                kind: REQUIRED,
+                name: R,
+                owner: 2,
+                link: 3,
+                ..EMPTY
+            },
+            4,
+            2,
+        ),
         Case(9, component(BLANK, 9), 9, 3),
         Case(9, component(C, 200), 9, 4),
         Case(9, component(C, 1), 5, 5),
-        Case(5, Row { kind: PARAMETER, name: LEN, owner: 1, hi: 9, value: 10, ..EMPTY }, 5, 6),
+        Case(
+            5,
+            Row {
+                kind: PARAMETER,
+                name: LEN,
+                owner: 1,
+                hi: 9,
+                value: 10,
+                ..EMPTY
+            },
+            5,
+            6,
+        ),
         Case(4, EMPTY, 3, 7),
-        Case(4, Row { kind: REQUIRED, name: R, owner: 1, ..EMPTY }, 3, 8),
+        Case(
+            4,
+            Row {
+                kind: REQUIRED,
+                name: R,
+                owner: 1,
+                ..EMPTY
+            },
+            3,
+            8,
+        ),
         Case(0, component(T, 2), 0, 9),
         Case(9, component(B, 0), 9, 10),
     ];
@@ -259,6 +614,12 @@ fn breaches_found() -> Result<(), Fail> {
 fn circles_end() -> Result<(), Fail> {
     let mut host = with(0, component(T, 2));
     let _ = host.write(9, component(C, NONE));
-    check_eq(number(try_step(&mut host, Step::Add { at: 9, owner: 2 })), 0)?;
-    check_eq(number(try_step(&mut host, Step::Add { at: 9, owner: 2 })), 13)
+    check_eq(
+        number(try_step(&mut host, Step::Add { at: 9, owner: 2 })),
+        0,
+    )?;
+    check_eq(
+        number(try_step(&mut host, Step::Add { at: 9, owner: 2 })),
+        13,
+    )
 }

@@ -11,9 +11,10 @@ pub loop-climbs-again : need.loop-climbs-again
 loop-climbs-again g c =
     let t = g .H·Host .rows (c .args .host .now) in
     let n = c .loop-climbs .climbs in
-    let e : suc n ≡ n + 1 = omega arith in
-    (ap (λ r. r .owner) (c .row-at-here .ensures) ∙ ap (ownerAt t) (c .loop-climbs .inv .0) ∙ sym (climb-last t n (c .args .place)) ∙ ap (λ k. climb t k (c .args .place)) e,
-     below-more _ _ (c .loop-climbs .inv .1) (λ h. c .if-here-goal .left (c .loop-climbs .inv .0 ∙ h)))
+    let e : suc n ≡ n + 1 = omega arith in (
+      ap (λ r. r .owner) (c .row-at-here .ensures) ∙ ap (ownerAt t) (c .loop-climbs .inv .0) ∙ sym (climb-last t n (c .args .place)) ∙ ap (λ k. climb t k (c .args .place)) e,
+      below-more _ _ (c .loop-climbs .inv .1) (λ h. c .if-here-goal .left (c .loop-climbs .inv .0 ∙ h)),
+    )
 
 pub returns : need.returns
 returns g c =

@@ -14,9 +14,10 @@ returns-in-None g c =
     let e : refusal t s ≡ None = sym (c .in-None .ensures tt) in
     let there = c .target-of-place .ensures in
     let same : g .H·Host .rows (c .write .last .self) ≡ effect t s =
-        c .write .ensures .rows ∙ ap (set t (c .target-of-place .result)) (c .row-after-row .ensures ∙ ap (rowAfter s) (c .row-at .ensures)) ∙ ap (λ p. set t p (rowAfter s (rowAt t p))) there in
+    c .write .ensures .rows ∙ ap (set t (c .target-of-place .result)) (c .row-after-row .ensures ∙ ap (rowAfter s) (c .row-at .ensures)) ∙ ap (λ p. set t p (rowAfter s (rowAt t p))) there in
     record {
       answer = written t s e _ (subst (λ p. Writes t p (c .write .result)) there (c .write .ensures .told)) ∙ sym (ap asAnswer e);
       rows = same ∙ sym (ap (λ x. unlessRefused x t (effect t s)) e);
       held = c .write .ensures .held;
-      lawful = λ law. subst Lawful (sym same) (step-lawful t (g .H·Host .small (c .args .host .now)) s law e) }
+      lawful = λ law. subst Lawful (sym same) (step-lawful t (g .H·Host .small (c .args .host .now)) s law e);
+    }
