@@ -102,14 +102,8 @@ fn is_out_of_range<H: Host>(host: &H, step: Step) -> bool
             value,
             ..
         } => !is_sound(name, lo, hi, value),
-        Step::Delete { .. } => false,
-        Step::Add { .. } => false,
-        Step::Remove { .. } => false,
-        Step::Bind { .. } => false,
-        Step::Unbind { .. } => false,
-        Step::Start { .. } => false,
-        Step::Stop { .. } => false,
         Step::Set { at, value } => is_outside(host, at, value),
+        _ => false,
     }
 }
 
@@ -126,18 +120,12 @@ fn is_tied<H: Host>(host: &H, step: Step) -> bool
     ensures { λ r. ⌜ Decides r (tied (H·Host .rows (now (host .entry))) step .holds) ⌝ }
 {
     match step {
-        Step::New { .. } => false,
-        Step::Provide { .. } => false,
-        Step::Require { .. } => false,
         Step::Parameter { owner, .. } => owns(host, owner, COMPONENT),
-        Step::Delete { .. } => false,
         Step::Add { at, owner } => row_at(host, at).owner != NONE || owns(host, owner, PARAMETER),
         Step::Remove { at } => row_at(host, at).owner == NONE,
         Step::Bind { at, to } => row_at(host, at).link != NONE || !joinable(host, at, to),
         Step::Unbind { at } => row_at(host, at).link == NONE,
-        Step::Start { .. } => false,
-        Step::Stop { .. } => false,
-        Step::Set { .. } => false,
+        _ => false,
     }
 }
 
@@ -160,7 +148,6 @@ fn is_running<H: Host>(host: &H, step: Step) -> bool
     ensures { λ r. ⌜ Decides r (running (H·Host .rows (now (host .entry))) step .holds) ⌝ }
 {
     match step {
-        Step::New { .. } => false,
         Step::Provide { owner, .. } => is_started(host, owner),
         Step::Require { owner, .. } => is_started(host, owner),
         Step::Parameter { owner, .. } => is_started(host, owner),
@@ -170,9 +157,7 @@ fn is_running<H: Host>(host: &H, step: Step) -> bool
         Step::Remove { at } => is_owner_started(host, at),
         Step::Bind { to, .. } => is_owner_started(host, to),
         Step::Unbind { at } => is_owner_started(host, row_at(host, at).link),
-        Step::Start { .. } => false,
-        Step::Stop { .. } => false,
-        Step::Set { .. } => false,
+        _ => false,
     }
 }
 
@@ -199,18 +184,9 @@ fn is_in_use<H: Host>(host: &H, step: Step) -> bool
     ensures { λ r. ⌜ Decides r (inUse (H·Host .rows (now (host .entry))) step .holds) ⌝ }
 {
     match step {
-        Step::New { .. } => false,
-        Step::Provide { .. } => false,
-        Step::Require { .. } => false,
-        Step::Parameter { .. } => false,
         Step::Delete { at } => is_joined(host, at),
-        Step::Add { .. } => false,
         Step::Remove { at } => interface_linked(host, at),
-        Step::Bind { .. } => false,
-        Step::Unbind { .. } => false,
-        Step::Start { .. } => false,
-        Step::Stop { .. } => false,
-        Step::Set { .. } => false,
+        _ => false,
     }
 }
 
@@ -219,18 +195,8 @@ fn makes_loop<H: Host>(host: &H, step: Step) -> bool
     ensures { λ r. ⌜ Decides r (loop (H·Host .rows (now (host .entry))) step .holds) ⌝ }
 {
     match step {
-        Step::New { .. } => false,
-        Step::Provide { .. } => false,
-        Step::Require { .. } => false,
-        Step::Parameter { .. } => false,
-        Step::Delete { .. } => false,
         Step::Add { at, owner } => reaches(host, owner, at),
-        Step::Remove { .. } => false,
-        Step::Bind { .. } => false,
-        Step::Unbind { .. } => false,
-        Step::Start { .. } => false,
-        Step::Stop { .. } => false,
-        Step::Set { .. } => false,
+        _ => false,
     }
 }
 
@@ -249,14 +215,9 @@ fn is_taken<H: Host>(host: &H, step: Step) -> bool
             name,
             ..
         } => borne(host, end, at, owner, name),
-        Step::Delete { .. } => false,
         Step::Add { at, owner } => borne(host, end, at, owner, row_at(host, at).name),
         Step::Remove { at } => borne(host, end, at, NONE, row_at(host, at).name),
-        Step::Bind { .. } => false,
-        Step::Unbind { .. } => false,
-        Step::Start { .. } => false,
-        Step::Stop { .. } => false,
-        Step::Set { .. } => false,
+        _ => false,
     }
 }
 
