@@ -1,32 +1,34 @@
--- The rules at the empty row, and so beyond the capacity.
-use mathlib.Core.Path.{_≡_, refl, sym, ap, subst}
+-- A table has one verdict.
+use mathlib.Core.Path.{_≡_, refl, sym, subst}
 use mathlib.Core.Logic.{inl, inr}
 use mathlib.Core.List.{List}
-use Prim.Native.Nat.{ℕ, _<_}
-use native.Mathlib.Omega.{arith}
-use lib.Dec.{lit≤}
-use lib.ListN.{length}
-use Rattle.std.proofs.shelf.Lists.{getD-past}
+use Rattle.std.specs.declared.result.Result.{Result}
+use Rattle.std.specs.declared.result.Result.the-variants.{Ok, Err}
+use Rattle.std.proofs.shelf.Tests.{cases-order}
 use Rattle.host.specs.declared.rows.Row.{Row}
 use Rattle.host.specs.declared.refusals.Rule.{Rule}
-use Rattle.host.specs.declared.refusals.Rule.the-variants.{KnownKind, OwnFields, NameForm, OwnerIsComponent, ParameterOwner, Range, LinkEnd, LinkOwners, OwnersEnd, OwnName}
-use Rattle.host.specs.Tables.{rowAt, emptyRow}
-use Rattle.table.specs.Climbing.{ltOrGe}
-use Rattle.table.specs.Rules.{KindKnown, FieldsFit, Keeps, KeepsAll, Lawful}
+use Rattle.host.specs.Numbers.{ruleNumber}
+use Rattle.table.specs.declared.breaches.Breach.{Breach}
+use Rattle.table.specs.Rules.{LowestBroken, FirstBreach, Checked}
+use Rattle.table.specs.Verdicts.{same-rule, verdict, verdict-right}
 
--- the empty row keeps every rule
-pub empty-keeps : (t : List Row) (p : ℕ) → rowAt t p ≡ emptyRow → (k : Rule) → Keeps k t p
-empty-keeps t p e KnownKind = subst KindKnown (sym e) (record { known = lit≤ tt; empty = λ _. refl })
-empty-keeps t p e OwnFields = subst FieldsFit (sym e) (record { link = λ _. refl; lo = λ _. refl; hi = λ _. refl; value = λ _. refl; up = inl refl })
-empty-keeps t p e NameForm = λ f. absurd (f (ap (λ r. r .kind) e))
-empty-keeps t p e OwnerIsComponent = λ f. absurd (f (ap (λ r. r .kind) e))
-empty-keeps t p e ParameterOwner = λ f. absurd (omega (arith, f, ap (λ r. r .kind) e))
-empty-keeps t p e Range = λ f. absurd (omega (arith, f, ap (λ r. r .kind) e))
-empty-keeps t p e LinkEnd = λ f. absurd (f (ap (λ r. r .link) e))
-empty-keeps t p e LinkOwners = λ f. absurd (f (ap (λ r. r .link) e))
-empty-keeps t p e OwnersEnd = (1, ap (λ r. r .owner) e)
-empty-keeps t p e OwnName = λ f. absurd (f (ap (λ r. r .kind) e))
+one-rule : (t : List Row) (p : _) (j k : Rule) → LowestBroken t p j → LowestBroken t p k → j ≡ k
+one-rule t p j k a b = elim (cases-order (ruleNumber j) (ruleNumber k)) [
+  | inl e ↦ same-rule j k e
+  | inr w ↦ elim w [ inl low ↦ absurd (a .broken (b .lowest j low)) | inr high ↦ absurd (b .broken (a .lowest k high)) ]
+]
 
--- so a table that keeps the rules at each of its places is lawful
-pub lawful-within : (t : List Row) → ((p : ℕ) → p < length t → KeepsAll t p) → Lawful t
-lawful-within t h = record { keeps = λ p. elim (ltOrGe p (length t)) [ inl low ↦ h p low | inr high ↦ empty-keeps t p (getD-past t p emptyRow high) ] }
+one-breach : (t : List Row) (a b : Breach) → FirstBreach t a → FirstBreach t b → a ≡ b
+one-breach t a b f g = elim (cases-order (a .place) (b .place)) [
+  | inl e ↦ let r : a .rule ≡ b .rule = one-rule t (b .place) (a .rule) (b .rule) (subst (λ p. LowestBroken t p (a .rule)) e (f .here)) (g .here) in λ i. record { place = e i; rule = r i }
+  | inr w ↦ elim w [ inl low ↦ absurd (f .here .broken (g .before (a .place) low (a .rule))) | inr high ↦ absurd (g .here .broken (f .before (b .place) high (b .rule))) ]
+]
+
+one-verdict : (t : List Row) (r s : Result Unit Breach) → Checked t r → Checked t s → r ≡ s
+one-verdict t (Ok u) (Ok v) f g = refl
+one-verdict t (Ok u) (Err b) f g = absurd (g .here .broken (f .keeps (b .place) (b .rule)))
+one-verdict t (Err a) (Ok v) f g = absurd (f .here .broken (g .keeps (a .place) (a .rule)))
+one-verdict t (Err a) (Err b) f g = λ i. Err (one-breach t a b f g i)
+
+pub is-verdict : (t : List Row) (r : Result Unit Breach) → Checked t r → r ≡ verdict t
+is-verdict t r f = one-verdict t r (verdict t) f (verdict-right t)

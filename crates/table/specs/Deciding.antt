@@ -31,6 +31,11 @@ pub not? : {P : Type 0} → Dec P → Dec (P → ⊥)
 not? (yes p) = no (λ h. h p)
 not? (no p) = yes p
 
+pub implies? : {P Q : Type 0} → Dec P → Dec Q → Dec (P → Q)
+implies? d (yes q) = yes (λ _. q)
+implies? (yes p) (no q) = no (λ h. q (h p))
+implies? (no p) (no q) = yes (λ x. absurd (p x))
+
 -- some k below n
 pub some? : (P : ℕ → Type 0) → ((k : ℕ) → Dec (P k)) → (n : ℕ) → Dec ((k : ℕ) × (k < n) × P k)
 some? P d zero = no (λ h. omega (arith, h .1))
@@ -45,10 +50,10 @@ pub map? : {P Q : Type 0} → (P → Q) → (Q → P) → Dec P → Dec Q
 map? f g (yes p) = yes (f p)
 map? f g (no p) = no (λ q. p (g q))
 
-three? : {P Q R : Type 0} → Dec P → Dec Q → Dec R → Dec (P × Q × R)
+pub three? : {P Q R : Type 0} → Dec P → Dec Q → Dec R → Dec (P × Q × R)
 three? p q r = map? (λ h. (h .0, h .1 .0, h .1 .1)) (λ h. (h .0, (h .1, h .2))) (both? p (both? q r))
 
-four? : {P Q R S : Type 0} → Dec P → Dec Q → Dec R → Dec S → Dec (P × Q × R × S)
+pub four? : {P Q R S : Type 0} → Dec P → Dec Q → Dec R → Dec S → Dec (P × Q × R × S)
 four? p q r s = map? (λ h. (h .0, h .1 .0, h .1 .1, h .1 .2)) (λ h. (h .0, (h .1, h .2, h .3))) (both? p (three? q r s))
 
 pub true? : (b : Bool) → Dec (b ≡ true)

@@ -4,3 +4,4 @@ pub mod Deciding
 pub mod Places
 pub mod Rules
 pub mod Steps
+pub mod Verdicts

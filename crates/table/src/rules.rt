@@ -1,6 +1,7 @@
 ghost use mathlib.Core.Path.{_≡_};
 ghost use Rattle.std.specs.Orderings.{Decides};
 ghost use Rattle.table.specs.Rules.{KindKnown, FieldsFit, R3, R4, R5, R6, R7, R8, R10, InRange, Keeps, Following, WrongAt, Checked};
+ghost use Rattle.table.specs.Verdicts.{verdict};
 use crate::breaches::Breach;
 use crate::places::borne;
 use crate::places::joinable;
@@ -160,7 +161,8 @@ fn wrong_at<H: Host>(host: &H, place: u8) -> Option<Rule>
 
 /// Whether a table is lawful; if not, the lowest place that breaks a rule and the lowest rule broken there.
 pub fn check<H: Host>(host: &H) -> Result<(), Breach>
-    ensures { λ r. ⌜ Checked (H·Host .rows (now (host .entry))) r ⌝ }
+    ensures finds { λ r. ⌜ Checked (H·Host .rows (now (host .entry))) r ⌝ }
+    ensures verdict { λ r. ⌜ r ≡ verdict (H·Host .rows (now (host .entry))) ⌝ }
 {
     for place in 0..host.capacity() {
         if let Some(rule) = wrong_at(host, place) {
