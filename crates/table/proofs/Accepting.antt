@@ -14,7 +14,7 @@ use Rattle.std.specs.declared.result.Result.the-variants.{Ok, Err}
 use Rattle.host.specs.declared.rows.Row.{Row}
 use Rattle.host.specs.declared.refusals.Refusal.{Refusal}
 use Rattle.host.specs.declared.refusals.Rule.the-variants.{OwnFields, Range, LinkEnd, LinkOwners}
-use Rattle.std.proofs.shelf.Lists.{getD-past}
+use Rattle.std.proofs.shelf.Lists.{getD-past, length-set}
 use Rattle.host.specs.Tables.{rowAt, emptyRow, Writes}
 use Rattle.host.specs.Names.{IsName}
 use Rattle.table.specs.declared.steps.Step.{Step}
@@ -23,7 +23,7 @@ use Rattle.table.specs.Climbing.{ltOrGe}
 use Rattle.table.specs.Conditions.{Condition, joinable}
 use Rattle.table.specs.Places.{component, provided, required, parameter, none, kindAt, nameAt, ownerAt, linkAt, InterfaceLinked, Borne}
 use Rattle.table.specs.Rules.{FieldsFit, InRange, KeepsAll, Lawful}
-use Rattle.table.specs.Steps.{refuseIf, first, refusal, beyond, needed, sound, tied, running, inUse, loop, taken, target, rowAfter, effect, fresh, withOwner}
+use Rattle.table.specs.Steps.{refuseIf, first, refusal, beyond, needed, sound, tied, running, inUse, loop, taken, target, rowAfter, effect, fresh, withOwner, unlessRefused, stepped}
 use Rattle.table.proofs.Keeping.{Settles, keeps-on}
 use Rattle.table.proofs.Settling.{touched, filling, moved, emptied, ends-apart, past-all, apart, filled, inside-kind, inside-link, link-provided, no-parameter-outside}
 
@@ -164,3 +164,19 @@ pub step-lawful : (t : List Row) → length t ≤ 255 → (s : Step) → Lawful 
 step-lawful t small s law e =
     let h = accepted t s e in
     record { keeps = keeps-on t (target s) (within t s h) (rowAfter s (rowAt t (target s))) (law .keeps) (settles t small (law .keeps) s h) }
+
+-- a tried step, accepted or not, keeps a lawful table lawful
+pub stepped-lawful : (t : List Row) → length t ≤ 255 → (s : Step) → Lawful t → Lawful (stepped t s)
+stepped-lawful t small s law = go (refusal t s) refl
+  where
+    go : (o : Option Refusal) → refusal t s ≡ o → Lawful (unlessRefused o t (effect t s))
+    go None e = step-lawful t small s law e
+    go (Some x) e = law
+
+-- and as many rows as there were
+pub length-stepped : (t : List Row) (s : Step) → length (stepped t s) ≡ length t
+length-stepped t s = go (refusal t s)
+  where
+    go : (o : Option Refusal) → length (unlessRefused o t (effect t s)) ≡ length t
+    go None = length-set t (target s) (rowAfter s (rowAt t (target s)))
+    go (Some x) = refl

@@ -9,7 +9,7 @@ use Rattle.host.specs.declared.rows.Row.{Row}
 use Rattle.host.specs.declared.refusals.Rule.{Rule}
 use Rattle.host.specs.Numbers.{ruleNumber}
 use Rattle.table.specs.declared.breaches.Breach.{Breach}
-use Rattle.table.specs.Rules.{LowestBroken, FirstBreach, Checked}
+use Rattle.table.specs.Rules.{LowestBroken, FirstBreach, Checked, Lawful}
 use Rattle.table.specs.Verdicts.{same-rule, verdict, verdict-right}
 
 one-rule : (t : List Row) (p : _) (j k : Rule) → LowestBroken t p j → LowestBroken t p k → j ≡ k
@@ -32,3 +32,10 @@ one-verdict t (Err a) (Err b) f g = λ i. Err (one-breach t a b f g i)
 
 pub is-verdict : (t : List Row) (r : Result Unit Breach) → Checked t r → r ≡ verdict t
 is-verdict t r f = one-verdict t r (verdict t) f (verdict-right t)
+
+-- the verdict says whether a table is lawful
+pub lawful-from-verdict : (t : List Row) → verdict t ≡ Ok tt → Lawful t
+lawful-from-verdict t e = subst (Checked t) e (verdict-right t)
+
+pub verdict-from-lawful : (t : List Row) → Lawful t → verdict t ≡ Ok tt
+verdict-from-lawful t law = sym (is-verdict t (Ok tt) law)
