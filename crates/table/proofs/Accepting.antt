@@ -23,7 +23,8 @@ use Rattle.table.specs.Climbing.{ltOrGe}
 use Rattle.table.specs.Conditions.{Condition, joinable}
 use Rattle.table.specs.Places.{component, provided, required, parameter, none, kindAt, nameAt, ownerAt, linkAt, InterfaceLinked, Borne}
 use Rattle.table.specs.Rules.{FieldsFit, InRange, KeepsAll, Lawful}
-use Rattle.table.specs.Steps.{refuseIf, first, refusal, beyond, needed, sound, tied, running, inUse, loop, taken, target, rowAfter, effect, fresh, withOwner, unlessRefused, stepped}
+use Rattle.table.specs.Refusals.{refuseIf, first, refusal, beyond, needed, sound, tied, running, inUse, loop, taken}
+use Rattle.table.specs.Steps.{target, rowAfter, effect, fresh, withOwner, unlessRefused, stepped}
 use Rattle.table.proofs.Keeping.{Settles, keeps-on}
 use Rattle.table.proofs.Settling.{touched, filling, moved, emptied, ends-apart, past-all, apart, filled, inside-kind, inside-link, link-provided, no-parameter-outside}
 

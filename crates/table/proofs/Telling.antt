@@ -9,7 +9,7 @@ use Rattle.std.specs.declared.option.Option.the-variants.{Some, None}
 use Rattle.std.proofs.shelf.Ways.{not-from-decides}
 use Rattle.host.specs.declared.refusals.Refusal.{Refusal}
 use Rattle.table.specs.Conditions.{Condition}
-use Rattle.table.specs.Steps.{refuseIf, first}
+use Rattle.table.specs.Refusals.{refuseIf, first}
 
 module _ {P Q : Type 0} (r : Bool) where
   -- the first of two holds, so the second tells

@@ -7,7 +7,7 @@ ghost use Rattle.host.specs.Names.{IsName};
 ghost use Rattle.table.specs.Rules.{InRange};
 ghost use Rattle.table.specs.Places.{component, none, kindAt, ownerAt, linkAt};
 ghost use Rattle.table.specs.Conditions.{started};
-ghost use Rattle.table.specs.Steps.{beyond, wrongRows, outOfRange, tied, running, inUse, loop, taken, refusal};
+ghost use Rattle.table.specs.Refusals.{beyond, wrongRows, outOfRange, tied, running, inUse, loop, taken, refusal};
 use crate::places::borne;
 use crate::places::interface_linked;
 use crate::places::joinable;

@@ -1,7 +1,7 @@
 use mathlib.Core.Path.{sym, subst}
 use Rattle.std.specs.Orderings.{Decides}
 use Rattle.table.specs.declared.steps.Step.{Step}
-use Rattle.table.specs.Steps.{inUse}
+use Rattle.table.specs.Refusals.{inUse}
 use Rattle.table.proofs.refusing.is_in_use.Needs as need
 
 pub returns-in-Delete : need.returns-in-Delete

@@ -1,4 +1,4 @@
-use Rattle.table.specs.Steps.{refusal}
+use Rattle.table.specs.Refusals.{refusal}
 use Rattle.table.proofs.Telling.{here, past, no-more}
 use Rattle.table.proofs.refusing.refusal_of.Needs as need
 

@@ -3,7 +3,8 @@ use lib.ListN.{set}
 use Rattle.std.specs.declared.option.Option.the-variants.{None}
 use Rattle.host.specs.Tables.{rowAt, Writes}
 use Rattle.table.specs.Rules.{Lawful}
-use Rattle.table.specs.Steps.{target, rowAfter, refusal, effect, unlessRefused, asAnswer}
+use Rattle.table.specs.Refusals.{refusal}
+use Rattle.table.specs.Steps.{target, rowAfter, effect, unlessRefused, asAnswer}
 use Rattle.table.proofs.Accepting.{step-lawful, written}
 use Rattle.table.proofs.trying.try_step.Needs as need
 
