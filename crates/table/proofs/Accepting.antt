@@ -6,7 +6,7 @@ use Prim.Native.Nat.{ℕ, _<_, _≤_}
 use native.Mathlib.Omega.{arith}
 use native.Mathlib.Decide.{ℕ-discrete}
 use lib.Dec.{lit≤}
-use lib.ListN.{length}
+use lib.ListN.{length, set}
 use Rattle.std.specs.declared.option.Option.{Option}
 use Rattle.std.specs.declared.option.Option.the-variants.{Some, None}
 use Rattle.std.specs.declared.result.Result.{Result}
@@ -24,7 +24,7 @@ use Rattle.table.specs.Conditions.{Condition, joinable}
 use Rattle.table.specs.Places.{component, provided, required, parameter, none, kindAt, nameAt, ownerAt, linkAt, InterfaceLinked, Borne}
 use Rattle.table.specs.Rules.{FieldsFit, InRange, KeepsAll, Lawful}
 use Rattle.table.specs.Refusals.{refuseIf, first, refusal, beyond, needed, sound, tied, running, inUse, loop, taken}
-use Rattle.table.specs.Steps.{target, rowAfter, effect, fresh, withOwner, unlessRefused, stepped}
+use Rattle.table.specs.Steps.{target, rowAfter, effect, fresh, withOwner, unlessRefused, stepped, asAnswer, answer}
 use Rattle.table.proofs.Keeping.{Settles, keeps-on}
 use Rattle.table.proofs.Settling.{touched, filling, moved, emptied, ends-apart, past-all, apart, filled, inside-kind, inside-link, link-provided, no-parameter-outside}
 
@@ -181,3 +181,11 @@ length-stepped t s = go (refusal t s)
     go : (o : Option Refusal) → length (unlessRefused o t (effect t s)) ≡ length t
     go None = length-set t (target s) (rowAfter s (rowAt t (target s)))
     go (Some x) = refl
+
+-- what writing the row that the step makes leaves
+pub written-effect : (t u : List Row) (s : Step) (p : ℕ) (q r : Row) → p ≡ target s → q ≡ rowAt t p → r ≡ rowAfter s q → u ≡ set t p r → u ≡ effect t s
+written-effect t u s p q r e f g h = h ∙ ap (set t p) (g ∙ ap (rowAfter s) f) ∙ ap (λ x. set t x (rowAfter s (rowAt t x))) e
+
+-- a step that is not refused answers and leaves what its definition says
+pub done : (t u : List Row) (s : Step) (r : Result Unit Refusal) → None ≡ refusal t s → Writes t (target s) r → u ≡ effect t s → (r ≡ answer t s) × (u ≡ stepped t s)
+done t u s r e w h = (written t s (sym e) r w ∙ ap asAnswer e, h ∙ ap (λ o. unlessRefused o t (effect t s)) e)

@@ -3,3 +3,4 @@ pub mod Telling
 pub mod Keeping
 pub mod Settling
 pub mod Accepting
+pub mod Edges

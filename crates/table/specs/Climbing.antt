@@ -77,6 +77,10 @@ module _ (t : List Row) where
   pub climb-last : (n p : ℕ) → climb t (suc n) p ≡ ownerAt t (climb t n p)
   climb-last n p = let e : suc n ≡ n + 1 = omega arith in ap (λ k. climb t k p) e ∙ climb-add n 1 p
 
+  -- one climb more
+  pub climb-more : (n p here : ℕ) (row : Row) → here ≡ climb t n p → row ≡ rowAt t here → row .owner ≡ climb t (n + 1) p
+  climb-more n p here row e f = ap (λ r. r .owner) f ∙ ap (ownerAt t) e ∙ sym (climb-add n 1 p)
+
   pub owner-past : (p : ℕ) → length t ≤ p → ownerAt t p ≡ 255
   owner-past p h = ap (λ r. r .owner) (getD-past t p emptyRow h)
 

@@ -1,6 +1,7 @@
 pub mod Climbing
 pub mod Conditions
 pub mod Deciding
+pub mod Edges
 pub mod Places
 pub mod Refusals
 pub mod Rules
