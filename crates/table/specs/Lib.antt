@@ -1,0 +1,9 @@
+pub mod Climbing
+pub mod Conditions
+pub mod Deciding
+pub mod Edges
+pub mod Places
+pub mod Refusals
+pub mod Rules
+pub mod Steps
+pub mod Verdicts
