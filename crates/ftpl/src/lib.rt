@@ -1,0 +1,4 @@
+// Properties of a table, formulas over a path of tables, and what they are worth on any scale.
+pub mod books;
+pub mod formulas;
+pub mod properties;
