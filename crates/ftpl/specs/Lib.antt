@@ -1,0 +1,4 @@
+pub mod Joins
+pub mod Properties
+pub mod Paths
+pub mod Formulas
