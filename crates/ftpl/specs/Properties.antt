@@ -3,7 +3,7 @@ use mathlib.Core.Bool.{Bool, cond}
 use mathlib.Core.List.{List, [], _∷_, map}
 use Prim.Native.Nat.{ℕ}
 use lib.Dec.{eqb}
-use lib.IntN.{ℤ, pos, negsuc, negℤ, _+ℤ_}
+use lib.IntN.{ℤ, pos, negsuc, _-ℤ_}
 use lib.ListN.{length, getD, take}
 use Rattle.std.specs.Numbers.{minZ, maxZ}
 use Rattle.std.specs.declared.option.Option.{Option}
@@ -44,21 +44,31 @@ placeOf v w Inner = w
 
 -- the right number less the left, brought into −2,000,000 to 2,000,000
 abbrev pub margin : ℤ → ℤ → ℤ
-margin left right = maxZ (negsuc 1999999) (minZ (right +ℤ negℤ left) (pos 2000000))
+margin left right = maxZ (negsuc 1999999) (minZ (right -ℤ left) (pos 2000000))
 
-module _ {V : Type 0} (s : Ops V) (t : List Row) where
+module _ {V : Type 0} (s : Ops V) where
   -- top for yes, bottom for no
   abbrev pub verdict : Bool → V
   verdict b = cond b (s .top) (s .bottom)
 
+  -- all is both, some is either
+  abbrev pub joinedBy : Quantifier → List V → V
+  joinedBy ForAll xs = all s xs
+  joinedBy Exists xs = some s xs
+
+  abbrev pub pairBy : Quantifier → V → V → V
+  pairBy ForAll x y = s .both x y
+  pairBy Exists x y = s .either x y
+
+module _ {V : Type 0} (s : Ops V) (t : List Row) where
   -- a test, where v stands for the place v and w for the place w
   abbrev pub testValue : ℕ → ℕ → Test → V
-  testValue v w (Named x name) = verdict (sameName (rowAt t (placeOf v w x) .name) name)
-  testValue v w (OwnerNamed x name) = verdict (sameName (rowAt t (rowAt t (placeOf v w x) .owner) .name) name)
-  testValue v w (Bound x y) = verdict (eqb (rowAt t (placeOf v w x) .link) (placeOf v w y))
-  testValue v w (Child x y) = verdict (eqb (rowAt t (placeOf v w x) .owner) (placeOf v w y))
-  testValue v w (Same x y) = verdict (eqb (placeOf v w x) (placeOf v w y))
-  testValue v w (Up x) = verdict (eqb (rowAt t (placeOf v w x) .up) 1)
+  testValue v w (Named x name) = verdict s (sameName (rowAt t (placeOf v w x) .name) name)
+  testValue v w (OwnerNamed x name) = verdict s (sameName (rowAt t (rowAt t (placeOf v w x) .owner) .name) name)
+  testValue v w (Bound x y) = verdict s (eqb (rowAt t (placeOf v w x) .link) (placeOf v w y))
+  testValue v w (Child x y) = verdict s (eqb (rowAt t (placeOf v w x) .owner) (placeOf v w y))
+  testValue v w (Same x y) = verdict s (eqb (placeOf v w x) (placeOf v w y))
+  testValue v w (Up x) = verdict s (eqb (rowAt t (placeOf v w x) .up) 1)
   testValue v w (AtMostNumber x number) = s .grade (margin (rowAt t (placeOf v w x) .value) number)
   testValue v w (AtMost x y) = s .grade (margin (rowAt t (placeOf v w x) .value) (rowAt t (placeOf v w y) .value))
 
@@ -68,13 +78,9 @@ module _ {V : Type 0} (s : Ops V) (t : List Row) where
   testsValue v w (Both′ p x q y) = s .both (testsValue v w x) (testsValue v w y)
   testsValue v w (Either′ p x q y) = s .either (testsValue v w x) (testsValue v w y)
 
-  -- all is both, some is either, of the values at the rows of the kind
-  abbrev pub joinedBy : Quantifier → List V → V
-  joinedBy ForAll xs = all s xs
-  joinedBy Exists xs = some s xs
-
+  -- the values at the rows of the kind, joined
   abbrev pub quantified : Binder → (ℕ → V) → V
-  quantified b f = joinedBy (b .quantifier) (map f (placesOf (b .kind) t))
+  quantified b f = joinedBy s (b .quantifier) (map f (placesOf (b .kind) t))
 
   -- with v at its place; without a second quantifier w stands for 255, which is no place
   abbrev pub valueAt : Option Binder → Tests → ℕ → V
