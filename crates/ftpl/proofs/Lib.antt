@@ -1,1 +1,3 @@
 pub mod Quantified
+pub mod Numbered
+pub mod Conditions

@@ -9,6 +9,7 @@ use Rattle.std.specs.Numbers.{minZ, maxZ}
 use Rattle.std.specs.declared.option.Option.{Option}
 use Rattle.std.specs.declared.option.Option.the-variants.{None, Some}
 use Rattle.scale.specs.Laws.{Ops}
+use Rattle.scale.specs.YesNo.{yesNo}
 use Rattle.host.specs.declared.rows.Row.{Row}
 use Rattle.host.specs.Tables.{rowAt}
 use Rattle.host.specs.Names.{sameName}
@@ -93,3 +94,8 @@ module _ {V : Type 0} (s : Ops V) (t : List Row) where
   -- the value of the property with this number, counted from 1, of the first 64; bottom where there is none
   abbrev pub numberedValue : List Property → ℕ → V
   numberedValue ps n = getD (s .bottom ∷ map propertyValue (take 64 ps)) n (s .bottom)
+
+-- the first of the numbered properties that is no on the table, read in yes and no
+abbrev pub firstBroken : List Row → List Property → List ℕ → Option ℕ
+firstBroken t ps [] = None
+firstBroken t ps (n ∷ ns) = cond (numberedValue yesNo t ps n) (firstBroken t ps ns) (Some n)

@@ -5,7 +5,7 @@ ghost use lib.Dec.{eqb};
 ghost use lib.IntN.{pos, negsuc};
 ghost use lib.Signed.{_≤ℤ_};
 ghost use Rattle.host.specs.Tables.{rowAt};
-ghost use Rattle.ftpl.specs.Properties.{kindNumber, placeOf, margin as marginOf, verdict as verdictOf, testValue, testsValue, joinedBy, pairBy, quantified, valueAt, propertyValue};
+ghost use Rattle.ftpl.specs.Properties.{kindNumber, placeOf, margin as marginOf, verdict as verdictOf, testValue, testsValue, joinedBy, pairBy, quantified, valueAt, propertyValue, numberedValue, firstBroken};
 use crate::properties::Binder;
 use crate::properties::Property;
 use crate::properties::Quantifier;
@@ -17,6 +17,7 @@ use host::Host;
 use host::row_at;
 use host::same_name;
 use scale::Scale;
+use scale::YesNo;
 
 /// No place: what `w` stands for without a second quantifier.
 const NOWHERE: u8 = 255;
@@ -161,4 +162,28 @@ pub fn property_value<H: Host, S: Scale>(host: &H, property: &Property) -> S
         }
     }
     total
+}
+
+/// The value of the property with this number, counted from 1; bottom where none is listed.
+pub fn numbered_value<H: Host, S: Scale>(host: &H, properties: &[Property], number: u8) -> S
+    ensures { λ r. ⌜ r ≡ numberedValue (S·Scale .ops) (H·Host .rows (now (host .entry))) (now (properties .entry)) number ⌝ }
+{
+    let count = number as usize;
+    if count >= 1 && count <= 64 && count <= properties.len() {
+        property_value(host, &properties[count - 1])
+    } else {
+        S::bottom()
+    }
+}
+
+/// The first of the standing conditions that the host's table does not meet, read in yes and no.
+pub fn broken_condition<H: Host>(host: &H, properties: &[Property], conditions: &[u8]) -> Option<u8>
+    ensures { λ r. ⌜ r ≡ firstBroken (H·Host .rows (now (host .entry))) (now (properties .entry)) (now (conditions .entry)) ⌝ }
+{
+    for number in conditions {
+        if !numbered_value::<_, YesNo>(host, properties, *number) {
+            return Some(*number);
+        }
+    }
+    None
 }
