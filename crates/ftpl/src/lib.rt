@@ -3,4 +3,6 @@ pub mod books;
 pub mod events;
 pub mod formulas;
 pub mod properties;
+#[cfg(test)]
+mod tests;
 pub mod values;

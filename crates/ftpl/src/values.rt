@@ -55,16 +55,26 @@ fn test_value<H: Host, S: Scale>(host: &H, v: u8, w: u8, test: Test) -> S
     ensures { λ r. ⌜ r ≡ testValue (S·Scale .ops) (H·Host .rows (now (host .entry))) v w test ⌝ }
 {
     match test {
-        Test::Named { subject, name } => verdict(same_name(row_at(host, place_of(v, w, subject)).name, name)),
+        Test::Named { subject, name } => verdict(same_name(
+            row_at(host, place_of(v, w, subject)).name,
+            name,
+        )),
         Test::OwnerNamed { subject, name } => {
             let owner = row_at(host, place_of(v, w, subject)).owner;
             verdict(same_name(row_at(host, owner).name, name))
         }
-        Test::Bound { from, to } => verdict(row_at(host, place_of(v, w, from)).link == place_of(v, w, to)),
-        Test::Child { child, owner } => verdict(row_at(host, place_of(v, w, child)).owner == place_of(v, w, owner)),
+        Test::Bound { from, to } => verdict(
+            row_at(host, place_of(v, w, from)).link == place_of(v, w, to),
+        ),
+        Test::Child { child, owner } => verdict(
+            row_at(host, place_of(v, w, child)).owner == place_of(v, w, owner),
+        ),
         Test::Same { left, right } => verdict(place_of(v, w, left) == place_of(v, w, right)),
         Test::Up { subject } => verdict(row_at(host, place_of(v, w, subject)).up == 1),
-        Test::AtMostNumber { left, number } => at_most(row_at(host, place_of(v, w, left)).value, number),
+        Test::AtMostNumber { left, number } => at_most(
+            row_at(host, place_of(v, w, left)).value,
+            number,
+        ),
         Test::AtMost { left, right } => {
             let high = row_at(host, place_of(v, w, right)).value;
             at_most(row_at(host, place_of(v, w, left)).value, high)

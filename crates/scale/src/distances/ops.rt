@@ -1,7 +1,7 @@
 ghost use mathlib.Core.Path.{_≡_};
 ghost use Rattle.scale.specs.Distances.{distance, distance-laws, distanceOf};
-use crate::scales::Scale;
 use super::Distance;
+use crate::scales::Scale;
 
 impl Distance {
     /// The distance of a number; one that no distance may be gives the bottom.
@@ -36,11 +36,15 @@ pub impl Scale for Distance as ByDistance {
     }
 
     fn both(self, other: Distance) -> Distance {
-        Distance { value: self.value.min(other.value) }
+        Distance {
+            value: self.value.min(other.value),
+        }
     }
 
     fn either(self, other: Distance) -> Distance {
-        Distance { value: self.value.max(other.value) }
+        Distance {
+            value: self.value.max(other.value),
+        }
     }
 
     fn turn(self) -> Distance {
@@ -48,6 +52,8 @@ pub impl Scale for Distance as ByDistance {
     }
 
     fn grade(difference: i32) -> Distance {
-        Distance { value: 2 * difference + 1 }
+        Distance {
+            value: 2 * difference + 1,
+        }
     }
 }

@@ -17,8 +17,8 @@ returns-else-count-ge1 g c =
     let n = c .args .number in
     c .bottom .ensures
     ∙ sym
-      (elim (c .else-count-ge1 .came) [
-        else-count-ge1·by·then-count-ge1·then-count-le64·else-count-properties w ↦ numbered-none s t ps n (omega arith)
+    (elim (c .else-count-ge1 .came) [
+      | else-count-ge1·by·then-count-ge1·then-count-le64·else-count-properties w ↦ numbered-none s t ps n (omega arith)
       | else-count-ge1·by·then-count-ge1·else-count-le64 w ↦ numbered-far s t ps n (omega arith)
       | else-count-ge1·by·else-count-ge1 w ↦ numbered-zero s t ps n (omega arith)
-      ])
+    ])

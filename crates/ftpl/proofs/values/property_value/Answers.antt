@@ -18,10 +18,10 @@ loop-v-again g c =
     let f = valueAt s t (c .args .property .now .inner) (c .args .property .now .tests) in
     let here : c .loop-v .v < length t = omega arith in
     elim (c .if-is-of-kind .came) [
-      then-is-of-kind w ↦
-        going-taken (g .S·Scale .laws) (b .quantifier) test f (length t) (c .loop-v .v) (c .loop-v .total) (c .if-is-of-kind .total) _ here (sym (c .is-of-kind .ensures) ∙ w .if-is-of-kind .taken) (c .loop-v .inv) (w .value-at .ensures) (w .total-is ∙ w .joined-total .ensures)
-    | else-is-of-kind w ↦
-        going-left (g .S·Scale .laws) (b .quantifier) test f (length t) (c .loop-v .v) (c .loop-v .total) (c .if-is-of-kind .total) here (sym (c .is-of-kind .ensures) ∙ w .if-is-of-kind .left) (c .loop-v .inv) (w .total-is)
+      | then-is-of-kind w ↦
+          going-taken (g .S·Scale .laws) (b .quantifier) test f (length t) (c .loop-v .v) (c .loop-v .total) (c .if-is-of-kind .total) _ here (sym (c .is-of-kind .ensures) ∙ w .if-is-of-kind .taken) (c .loop-v .inv) (w .value-at .ensures) (w .total-is ∙ w .joined-total .ensures)
+      | else-is-of-kind w ↦
+          going-left (g .S·Scale .laws) (b .quantifier) test f (length t) (c .loop-v .v) (c .loop-v .total) (c .if-is-of-kind .total) here (sym (c .is-of-kind .ensures) ∙ w .if-is-of-kind .left) (c .loop-v .inv) (w .total-is)
     ]
 
 pub returns : need.returns

@@ -18,10 +18,10 @@ loop-w-again g c =
     let f = λ (w : ℕ). testsValue s t (c .args .v) w (c .args .tests .now) in
     let here : c .loop-w .w < length t = omega arith in
     elim (c .if-is-of-kind .came) [
-      then-is-of-kind w ↦
-        going-taken (g .S·Scale .laws) (b .quantifier) test f (length t) (c .loop-w .w) (c .loop-w .total) (c .if-is-of-kind .total) _ here (sym (c .is-of-kind .ensures) ∙ w .if-is-of-kind .taken) (c .loop-w .inv) (w .tests-value .ensures) (w .total-is ∙ w .joined-total .ensures)
-    | else-is-of-kind w ↦
-        going-left (g .S·Scale .laws) (b .quantifier) test f (length t) (c .loop-w .w) (c .loop-w .total) (c .if-is-of-kind .total) here (sym (c .is-of-kind .ensures) ∙ w .if-is-of-kind .left) (c .loop-w .inv) (w .total-is)
+      | then-is-of-kind w ↦
+          going-taken (g .S·Scale .laws) (b .quantifier) test f (length t) (c .loop-w .w) (c .loop-w .total) (c .if-is-of-kind .total) _ here (sym (c .is-of-kind .ensures) ∙ w .if-is-of-kind .taken) (c .loop-w .inv) (w .tests-value .ensures) (w .total-is ∙ w .joined-total .ensures)
+      | else-is-of-kind w ↦
+          going-left (g .S·Scale .laws) (b .quantifier) test f (length t) (c .loop-w .w) (c .loop-w .total) (c .if-is-of-kind .total) here (sym (c .is-of-kind .ensures) ∙ w .if-is-of-kind .left) (c .loop-w .inv) (w .total-is)
     ]
 
 pub returns : need.returns

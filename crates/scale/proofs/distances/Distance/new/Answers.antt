@@ -10,12 +10,12 @@ pub returns-then-number-ltminus8000001 : need.returns-then-number-ltminus8000001
 returns-then-number-ltminus8000001 c =
     same _ _
     (distance-else (c .args .number)
-      (λ o.
-        elim (c .then-number-ltminus8000001 .came) [
-          then-number-ltminus8000001·by·then-number-ltminus8000001 w ↦ omega (arith, ints, o)
-        | then-number-ltminus8000001·by·else-number-ltminus8000001·then-number-gt8000001 w ↦ omega (arith, ints, o)
-        | then-number-ltminus8000001·by·else-number-ltminus8000001·else-number-gt8000001·then-number-eq0 w ↦ omega (arith, ints, o)
-        ]))
+    (λ o.
+    elim (c .then-number-ltminus8000001 .came) [
+      | then-number-ltminus8000001·by·then-number-ltminus8000001 w ↦ omega (arith, ints, o)
+      | then-number-ltminus8000001·by·else-number-ltminus8000001·then-number-gt8000001 w ↦ omega (arith, ints, o)
+      | then-number-ltminus8000001·by·else-number-ltminus8000001·else-number-gt8000001·then-number-eq0 w ↦ omega (arith, ints, o)
+    ]))
 
 pub returns : need.returns
 returns c =
