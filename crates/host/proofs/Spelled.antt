@@ -4,6 +4,7 @@ use mathlib.Core.Logic.{⊎-elim}
 use mathlib.Core.Bool.{true, false, cond, _&&_, _||_}
 use mathlib.Core.List.{List, [], _∷_, map}
 use Prim.Native.Nat.{ℕ, zero, suc, _+_, _*_, _/_, _%_, _≤_, _<_}
+
 use native.Mathlib.Omega.{arith}
 use borrow.Author.Tests.{eq-eqb, ne-eqb, leb-true}
 use lib.Dec.{eqb, leb}
@@ -22,9 +23,9 @@ plain-range b h =
     ⊎-elim
     (λ (p : (leb 48 b && leb b 57) ≡ true). let q = and-parts (leb 48 b) (leb b 57) p in (omega (arith, leb-true 48 b (q .0)), omega (arith, leb-true b 57 (q .1))))
     (λ p. ⊎-elim
-    (λ q. let r = and-parts (leb 65 b) (leb b 90) q in (omega (arith, leb-true 65 b (r .0)), omega (arith, leb-true b 90 (r .1))))
-    (λ q. let r = and-parts (leb 97 b) (leb b 122) q in (omega (arith, leb-true 97 b (r .0)), omega (arith, leb-true b 122 (r .1))))
-    (or-cases (leb 65 b && leb b 90) (leb 97 b && leb b 122) p))
+        (λ q. let r = and-parts (leb 65 b) (leb b 90) q in (omega (arith, leb-true 65 b (r .0)), omega (arith, leb-true b 90 (r .1))))
+        (λ q. let r = and-parts (leb 97 b) (leb b 122) q in (omega (arith, leb-true 97 b (r .0)), omega (arith, leb-true b 122 (r .1))))
+        (or-cases (leb 65 b && leb b 90) (leb 97 b && leb b 122) p))
     (or-cases (leb 48 b && leb b 57) ((leb 65 b && leb b 90) || (leb 97 b && leb b 122)) h)
 
 -- what stands before the first zero byte, by its place

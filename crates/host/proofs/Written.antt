@@ -56,11 +56,11 @@ module _ (ws : List ℕ) (p : ℕ) (r : Row) (inside : 8 * p + 8 ≤ length ws) 
       ⊎-elim
       (λ h. getD-append-left (take (8 * p) ws) (wordsOf r ++ drop (8 * p + 7) ws) 0 k (omega (arith, front)) ∙ getD-take (8 * p) ws k 0 h)
       (λ h.
-      let e : 8 * p + 7 + (k - 8 * p - 7) ≡ k = omega arith in
-      getD-append-right (take (8 * p) ws) (wordsOf r ++ drop (8 * p + 7) ws) (8 * p) k 0 front (omega arith)
-      ∙ getD-append-right (wordsOf r) (drop (8 * p + 7) ws) 7 (k - 8 * p) 0 refl (omega arith)
-      ∙ getD-drop (8 * p + 7) ws (k - 8 * p - 7) 0
-      ∙ ap (λ n. getD ws n 0) e)
+          let e : 8 * p + 7 + (k - 8 * p - 7) ≡ k = omega arith in
+          getD-append-right (take (8 * p) ws) (wordsOf r ++ drop (8 * p + 7) ws) (8 * p) k 0 front (omega arith)
+          ∙ getD-append-right (wordsOf r) (drop (8 * p + 7) ws) 7 (k - 8 * p) 0 refl (omega arith)
+          ∙ getD-drop (8 * p + 7) ws (k - 8 * p - 7) 0
+          ∙ ap (λ n. getD ws n 0) e)
 
   -- the row that was written is read back
   here : Fits r → rowIn (put ws p r) p ≡ r
@@ -110,12 +110,12 @@ module _ (ws : List ℕ) (p : ℕ) (r : Row) (h : p < room ws) where
       same-lists _ _
       (length-rows (put ws p r) ∙ same-room ∙ sym (length-rows ws) ∙ sym (length-set (rowsIn ws) p r))
       (λ k d l.
-      let l′ : k < room (put ws p r) = omega (arith, length-rows (put ws p r)) in
-      let l″ : k < room ws = omega (arith, same-room) in
-      ⊎-elim
-      (λ (e : k ≡ p). read-row (put ws p r) k d l′ ∙ ap (rowIn (put ws p r)) e ∙ here ws p r inside f ∙ sym (getD-set-same (rowsIn ws) p r d (omega (arith, length-rows ws))) ∙ ap (λ i. getD (set (rowsIn ws) p r) i d) (sym e))
-      (λ (ne : k ≡ p → ⊥). read-row (put ws p r) k d l′ ∙ there ws p r inside k ne ∙ sym (read-row ws k d l″) ∙ sym (getD-set-other (rowsIn ws) p k r d ne))
-      (cases-eq k p))
+          let l′ : k < room (put ws p r) = omega (arith, length-rows (put ws p r)) in
+          let l″ : k < room ws = omega (arith, same-room) in
+          ⊎-elim
+          (λ (e : k ≡ p). read-row (put ws p r) k d l′ ∙ ap (rowIn (put ws p r)) e ∙ here ws p r inside f ∙ sym (getD-set-same (rowsIn ws) p r d (omega (arith, length-rows ws))) ∙ ap (λ i. getD (set (rowsIn ws) p r) i d) (sym e))
+          (λ (ne : k ≡ p → ⊥). read-row (put ws p r) k d l′ ∙ there ws p r inside k ne ∙ sym (read-row ws k d l″) ∙ sym (getD-set-other (rowsIn ws) p k r d ne))
+          (cases-eq k p))
 
   pub others-put : (k : ℕ) → (k / 8 ≡ p → ⊥) → getD (put ws p r) k 0 ≡ getD ws k 0
   others-put k away = other ws p r inside k (⊎-elim (λ (x : k < 8 * p). inl x) (λ (x : 8 * p ≤ k). inr (⊎-elim (λ (y : k < 8 * p + 8). absurd (away (omega arith))) (λ y. omega arith) (cases-lt k (8 * p + 8)))) (cases-lt k (8 * p)))

@@ -25,10 +25,7 @@ pub impl<H: Host> Host for Bay<H> as BayHost {
     ghost onward = { λ a b c p q. (H·Host .onward (a .below) (b .below) (c .below) (p .0) (q .0), q .1 ∙ p .1, q .2 ∙ p .2, outward (p .1) (p .2) (p .3) (q .3)) };
 
     fn capacity(&self) -> u8 {
-        self.below
-            .capacity()
-            .saturating_sub(self.first)
-            .min(self.count)
+        self.below.capacity().saturating_sub(self.first).min(self.count)
     }
 
     fn read(&self, place: u8) -> Result<Row, Refusal> {

@@ -26,11 +26,8 @@ pub struct Row {
 pub const NONE: u8 = 255;
 
 pub const COMPONENT: u8 = 1;
-
 pub const PROVIDED: u8 = 2;
-
 pub const REQUIRED: u8 = 3;
-
 pub const PARAMETER: u8 = 4;
 
 /// The empty row: no owner, no link, zeros elsewhere.
