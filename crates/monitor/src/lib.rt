@@ -1,0 +1,4 @@
+// What a book's formulas are worth over a whole path, in memory that never grows.
+mod clauses;
+mod leaf_values;
+mod steps;
