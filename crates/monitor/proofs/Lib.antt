@@ -6,3 +6,6 @@ pub mod Masks
 pub mod Traces
 pub mod Numbered
 pub mod Made
+pub mod Filled
+pub mod Spans
+pub mod Followed

@@ -1,3 +1,4 @@
 pub mod Segments
 pub mod Monitor
 pub mod Layout
+pub mod Boards
