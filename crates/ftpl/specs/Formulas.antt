@@ -1,8 +1,8 @@
 -- The value of a formula on a path, in any scale, by the numbers of the positions.
 use mathlib.Core.Bool.{Bool}
-use mathlib.Core.List.{List, map}
+use mathlib.Core.List.{List, _∷_, map}
 use Prim.Native.Nat.{ℕ, suc, _-_}
-use lib.ListN.{length}
+use lib.ListN.{length, getD}
 use Rattle.std.specs.declared.option.Option.{Option}
 use Rattle.std.specs.declared.option.Option.the-variants.{None, Some}
 use Rattle.scale.specs.Laws.{Ops}
@@ -73,3 +73,7 @@ module _ {V : Type 0} (s : Ops V) (properties : List Property) where
   -- a formula from position i to the last of the path
   abbrev pub formulaValue : List Position → Formula → ℕ → V
   formulaValue path f i = formulaFrom s (λ k. seen (positionAt path k)) f (length path - 1) i
+
+  -- the value of the formula with this number, counted from 1, over the whole path; bottom where there is none
+  abbrev pub shownValue : List Formula → List Position → ℕ → V
+  shownValue fs path n = getD (s .bottom ∷ map (λ f. formulaValue path f 0) fs) n (s .bottom)

@@ -9,3 +9,4 @@ pub mod Made
 pub mod Filled
 pub mod Spans
 pub mod Followed
+pub mod Watching

@@ -5,19 +5,23 @@ use mathlib.Core.List.{List, [], _∷_, map}
 use Prim.Native.Nat.{ℕ, _+_, _*_, _<_, _≤_}
 use lib.ListN.{length, getD, drop, replicate}
 use Rattle.std.specs.Holes.{between}
-use Rattle.std.specs.Of.Vec.{vec-items}
+use Rattle.std.specs.Of.Vec.{vec-items, vec-len}
+use Rattle.std.specs.declared.result.Result.{Result}
+use Rattle.std.specs.declared.result.Result.the-variants.{Ok, Err}
 use Rattle.scale.specs.Laws.{Ops}
+use Rattle.host.specs.declared.refusals.Refusal.{Refusal}
+use Rattle.host.specs.declared.refusals.Refusal.the-variants.{TooSmall, NoSuch}
 use Rattle.host.specs.declared.rows.Row.{Row}
 use Rattle.ftpl.specs.Properties.{numberedValue}
 use Rattle.ftpl.specs.Paths.{Position}
-use Rattle.ftpl.specs.Formulas.{View, seen, leafAt}
+use Rattle.ftpl.specs.Formulas.{seen, leafAt, shownValue}
 use Rattle.ftpl.specs.declared.books.Book.{Book}
 use Rattle.ftpl.specs.declared.properties.Property.{Property}
 use Rattle.ftpl.specs.declared.formulas.Formula.{Formula}
 use Rattle.ftpl.specs.declared.formulas.Leaves.{Leaves}
 use Rattle.ftpl.specs.declared.formulas.Slot.{Slot}
 use Rattle.monitor.specs.declared.leaf_values.LeafValues.{LeafValues}
-use Rattle.monitor.specs.Monitor.{State, begin, run, step, stepWith, numberOf, toldBy}
+use Rattle.monitor.specs.Monitor.{State, begin, run, numberOf, toldBy}
 use Rattle.monitor.specs.Layout.{viewed}
 
 -- the values that a board needs for so many formulas
@@ -61,3 +65,14 @@ module _ {V : Type 0} (s : Ops V) where
   pub record Tidy (count : ℕ) (old new : List V) : Type 0 where
     pub cleared : working count new ≡ replicate 64 (s .bottom)
     pub beyond : drop (room count) new ≡ drop (room count) old
+
+  -- a call that changes a board: refused where it is too small, and then it is as it was
+  pub record Outcome (count : ℕ) (old new : List V) (r : Result Unit Refusal) : Type 0 where
+    pub small : length old < room count → (r ≡ Err TooSmall) × (new ≡ old)
+    pub tidy : room count ≤ length old → (r ≡ Ok tt) × Tidy count old new
+
+  -- what reading the formula with a number answers
+  pub record Reading (book : Book) (number : ℕ) (board : List V) (r : Result V Refusal) : Type 0 where
+    pub small : length board < room (vec-len (book .formulas)) → r ≡ Err TooSmall
+    pub none : room (vec-len (book .formulas)) ≤ length board → (1 ≤ number → number ≤ vec-len (book .formulas) → ⊥) → r ≡ Err NoSuch
+    pub value : room (vec-len (book .formulas)) ≤ length board → 1 ≤ number → number ≤ vec-len (book .formulas) → (path : List Position) → 1 ≤ length path → Watches book path board → r ≡ Ok (shownValue s (vec-items (book .properties)) (vec-items (book .formulas)) path number)
