@@ -26,17 +26,17 @@ pub record Gone {V : Type 0} (Good : ℕ → List V → Type 0) (old now : List 
   pub todo : drop (40 * n) now ≡ drop (40 * n) old
 
 pub gone-more : {V : Type 0} (Good : ℕ → List V → Type 0) (old now new : List V) (n : ℕ)
-  → Gone Good old now n
-  → Good n (part n new)
-  → take (40 * n) new ≡ take (40 * n) now
-  → drop (40 * n + 40) new ≡ drop (40 * n + 40) now
-  → Gone Good old new (n + 1)
+    → Gone Good old now n
+    → Good n (part n new)
+    → take (40 * n) new ≡ take (40 * n) now
+    → drop (40 * n + 40) new ≡ drop (40 * n + 40) now
+    → Gone Good old new (n + 1)
 gone-more Good old now new n g here before beyond =
     let size : 40 * (n + 1) ≡ 40 * n + 40 = omega arith in
     record {
       done = below-more (λ i. Good i (part i new)) n
-        (λ i h. subst (Good i) (sym (ahead new now (40 * n) (40 * i) (40 * i + 40) (omega arith) before)) (g .done i h))
-        here;
+          (λ i h. subst (Good i) (sym (ahead new now (40 * n) (40 * i) (40 * i + 40) (omega arith) before)) (g .done i h))
+          here;
       todo = ap (λ k. drop k new) size ∙ beyond ∙ drop-on now old (40 * n) (40 * n + 40) (omega arith) (g .todo) ∙ ap (λ k. drop k old) (sym size);
     }
 
@@ -65,16 +65,17 @@ module _ {V : Type 0} (s : Ops V) where
 
   -- the working values are filled, each part goes on, and the working values are cleared
   pub advanced : (t : List Row) (ps : List Property) (fs : List Formula) (event : EventList → Bool) (filled b₀ b₁ b₂ b₃ : List V) →
-    let base = 40 * length fs in
-    take base b₁ ≡ take base b₀ → drop (base + 64) b₁ ≡ drop (base + 64) b₀ → working (length fs) b₁ ≡ filled → Ready s t ps fs filled
-    → Stepped s fs (λ f. stepWith s f (valuesIn s (working (length fs) b₁) (f .leaves)) event) b₁ b₂ → drop base b₂ ≡ drop base b₁
-    → take base b₃ ≡ take base b₂ → drop (base + 64) b₃ ≡ drop (base + 64) b₂ → working (length fs) b₃ ≡ replicate 64 (s .bottom)
-    → Stepped s fs (λ f. step s f (record { value = numberedValue s t ps; event = event })) b₀ b₃ × Tidy s (length fs) b₀ b₃
-  advanced t ps fs event filled b₀ b₁ b₂ b₃ front₁ back₁ mid₁ ready stepped back₂ front₃ back₃ mid₃ =
-      (λ i f st.
+      let base = 40 * length fs in
+      take base b₁ ≡ take base b₀ → drop (base + 64) b₁ ≡ drop (base + 64) b₀ → working (length fs) b₁ ≡ filled → Ready s t ps fs filled
+      → Stepped s fs (λ f. stepWith s f (valuesIn s (working (length fs) b₁) (f .leaves)) event) b₁ b₂ → drop base b₂ ≡ drop base b₁
+      → take base b₃ ≡ take base b₂ → drop (base + 64) b₃ ≡ drop (base + 64) b₂ → working (length fs) b₃ ≡ replicate 64 (s .bottom)
+      → Stepped s fs (λ f. step s f (record { value = numberedValue s t ps; event = event })) b₀ b₃ × Tidy s (length fs) b₀ b₃
+  advanced t ps fs event filled b₀ b₁ b₂ b₃ front₁ back₁ mid₁ ready stepped back₂ front₃ back₃ mid₃ = (
+    λ i f st.
         let inside = st .inside in
         let within : 40 * i + 40 ≤ 40 * length fs = omega arith in
         ap (viewed s) (ahead b₃ b₂ (40 * length fs) (40 * i) (40 * i + 40) within front₃)
         ∙ stepped i f st
         ∙ ap₂ (λ y p. stepWith s f y event (viewed s p)) (ap (λ xs. valuesIn s xs (f .leaves)) mid₁ ∙ values-ready t ps fs filled event ready i f st) (ahead b₁ b₀ (40 * length fs) (40 * i) (40 * i + 40) within front₁),
-      record { cleared = mid₃; beyond = back₃ ∙ drop-on b₂ b₁ (40 * length fs) (room (length fs)) (omega arith) back₂ ∙ back₁ })
+    record { cleared = mid₃; beyond = back₃ ∙ drop-on b₂ b₁ (40 * length fs) (room (length fs)) (omega arith) back₂ ∙ back₁ },
+  )

@@ -115,9 +115,12 @@ abbrev pub Done : {V : Type 0} → Ops V → List V → ℕ → (Set → V) → 
 Done s r n f = (length r ≡ 16) × ((k : ℕ) → k < n → getD r k (s .top) ≡ f (setOf k))
 
 pub done-more : {V : Type 0} (s : Ops V) (r : List V) (i : ℕ) (u : V) (f : Set → V) → i < 16 → Done s r i f → u ≡ f (setOf i) → Done s (set r i u) (i + 1) f
-done-more s r i u f h d e = (length-set r i u ∙ d .0, below-more (λ k. getD (set r i u) k (s .top) ≡ f (setOf k)) i
-    (λ k l. let ne : k ≢ i = omega arith in getD-set-other r i k u (s .top) ne ∙ d .1 k l)
-    (let le : i < length r = omega (arith, d .0) in getD-set-same r i u (s .top) le ∙ e))
+done-more s r i u f h d e = (
+  length-set r i u ∙ d .0,
+  below-more (λ k. getD (set r i u) k (s .top) ≡ f (setOf k)) i
+      (λ k l. let ne : k ≢ i = omega arith in getD-set-other r i k u (s .top) ne ∙ d .1 k l)
+      (let le : i < length r = omega (arith, d .0) in getD-set-same r i u (s .top) le ∙ e),
+)
 
 pub done-all : {V : Type 0} (s : Ops V) (r : List V) (n : ℕ) (f : Set → V) → 16 ≤ n → Done s r n f → clauses s r ≡ f
 done-all s r n f h d = filled s r f (λ k l. d .1 k (omega arith))
@@ -127,11 +130,12 @@ abbrev pub Written : {V : Type 0} → Ops V → List V → List V → ℕ → (S
 Written s old r n f = ((k : ℕ) → k < n → getD r k (s .top) ≡ f (setOf k)) × ((k : ℕ) → n ≤ k → getD r k (s .top) ≡ getD old k (s .top))
 
 pub written-more : {V : Type 0} (s : Ops V) (old r : List V) (i : ℕ) (u : V) (f : Set → V) → i < length r → Written s old r i f → u ≡ f (setOf i) → Written s old (set r i u) (i + 1) f
-written-more s old r i u f h d e =
-    (below-more (λ k. getD (set r i u) k (s .top) ≡ f (setOf k)) i
-    (λ k l. let ne : k ≢ i = omega arith in getD-set-other r i k u (s .top) ne ∙ d .0 k l)
-    (getD-set-same r i u (s .top) h ∙ e),
-    λ k l. let ne : k ≢ i = omega arith in getD-set-other r i k u (s .top) ne ∙ d .1 k (omega arith))
+written-more s old r i u f h d e = (
+  below-more (λ k. getD (set r i u) k (s .top) ≡ f (setOf k)) i
+      (λ k l. let ne : k ≢ i = omega arith in getD-set-other r i k u (s .top) ne ∙ d .0 k l)
+      (getD-set-same r i u (s .top) h ∙ e),
+  λ k l. let ne : k ≢ i = omega arith in getD-set-other r i k u (s .top) ne ∙ d .1 k (omega arith),
+)
 
 -- what a recursion over a trace ends by
 abbrev pub joints : Trace → ℕ

@@ -76,10 +76,10 @@ module _ {V : Type 0} (s : Ops V) (x : ℕ → View V) where
       let f = λ (k : ℕ). traceOver s x l t i (k - 1) in
       let test = λ (k : ℕ). x k .event e in
       one-more f (trace s l t) (x (i + suc d) .event e) (i + suc d) (those test (numbers (suc (i + suc d)) r)) (segment x i (suc d)) (ends e (segment x i (suc d) ++ (x (i + suc d) ∷ [])) (segment x (suc (i + suc d)) r))
-        (here l t i d)
-        (ap (λ k. map f (those test (numbers k r))) on
-          ∙ ends-over l t e i (suc d) r
-          ∙ ap₂ (λ (u : List (View V)) (k : ℕ). map (trace s l t) (ends e u (segment x k r))) (sym (segment-more x i (suc d))) (sym on))
+      (here l t i d)
+      (ap (λ k. map f (those test (numbers k r))) on
+      ∙ ends-over l t e i (suc d) r
+      ∙ ap₂ (λ (u : List (View V)) (k : ℕ). map (trace s l t) (ends e u (segment x k r))) (sym (segment-more x i (suc d))) (sym on))
 
   -- from the first position of a core on
   ends-from : (l : Leaves) (t : Trace) (e : EventList) (n i : ℕ) → i ≤ n → map (λ k. traceOver s x l t i (k - 1)) (those (λ k. x k .event e) (fromTo (suc i) n)) ≡ map (trace s l t) (ends e (x i ∷ []) (segment x (suc i) (n - i)))

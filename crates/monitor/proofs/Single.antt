@@ -133,8 +133,8 @@ module _ {V : Type 0} {s : Ops V} (p : Laws s) where
   leaf-more (Never a) xs x = sym (all-more (λ y. s .turn (y .value a)) xs x)
 
   more : (l : Leaves) (x : View V) (seen : List (View V)) (i : Slot) →
-    put Fourth (joins s (l .fourth) x (says s l seen Fourth)) (put Third (joins s (l .third) x (says s l seen Third)) (put Second (joins s (l .second) x (says s l seen Second)) (put First (joins s (l .first) x (says s l seen First)) (says s l seen)))) i
-    ≡ says s l (seen ++ (x ∷ [])) i
+      put Fourth (joins s (l .fourth) x (says s l seen Fourth)) (put Third (joins s (l .third) x (says s l seen Third)) (put Second (joins s (l .second) x (says s l seen Second)) (put First (joins s (l .first) x (says s l seen First)) (says s l seen)))) i
+      ≡ says s l (seen ++ (x ∷ [])) i
   more l x seen First = leaf-more (l .first) seen x
   more l x seen Second = leaf-more (l .second) seen x
   more l x seen Third = leaf-more (l .third) seen x

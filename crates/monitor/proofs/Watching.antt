@@ -42,13 +42,15 @@ module _ {V : Type 0} (s : Ops V) where
     ps = vec-items (book .properties)
 
     pub watches-first : (mid new : List V) → ((i : ℕ) → i < vec-len (book .formulas) → viewed s (part i mid) ≡ begin s) → length fs ≡ vec-len (book .formulas) → Stepped s fs (λ f. step s f (seen s ps x)) mid new → Watches s book (x ∷ []) new
-    watches-first mid new started long stepped i f st = let inside = st .inside in stepped i f st ∙ ap (step s f (seen s ps x)) (started i (omega arith))
+    watches-first mid new started long stepped = record { each = λ i f st. let inside = st .inside in stepped i f st ∙ ap (step s f (seen s ps x)) (started i (omega arith)) }
 
     pub watches-more : Laws s → (old new : List V) (path : List Position) → Stepped s fs (λ f. step s f (seen s ps x)) old new → Watches s book path old → Watches s book (path ++ (x ∷ [])) new
-    watches-more p old new path stepped w i f st =
-        stepped i f st
-        ∙ ap (step s f (seen s ps x)) (w i f st)
-        ∙ sym (ap (run s f (begin s)) (map-append (seen s ps) path (x ∷ [])) ∙ run-more p f (begin s) (map (seen s ps) path) (seen s ps x))
+    watches-more p old new path stepped w = record {
+      each = λ i f st.
+          stepped i f st
+          ∙ ap (step s f (seen s ps x)) (w .each i f st)
+          ∙ sym (ap (run s f (begin s)) (map-append (seen s ps) path (x ∷ [])) ∙ run-more p f (begin s) (map (seen s ps) path) (seen s ps x));
+    }
 
   -- what is shown of a formula that was watched over a path is its value there
   pub watched-value : Laws s → (ps : List Property) (f : Formula) (path : List Position) → 1 ≤ length path → shown s f (run s f (begin s) (map (seen s ps) path)) ≡ formulaValue s ps path f 0

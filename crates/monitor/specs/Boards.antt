@@ -58,8 +58,8 @@ module _ {V : Type 0} (s : Ops V) where
   Stepped fs go old new = (i : ℕ) (f : Formula) → Stands fs i f → viewed s (part i new) ≡ go f (viewed s (part i old))
 
   -- the board has watched each formula of the book over the whole path
-  abbrev pub Watches : Book → List Position → List V → Type 0
-  Watches book path board = (i : ℕ) (f : Formula) → Stands (vec-items (book .formulas)) i f → viewed s (part i board) ≡ run s f (begin s) (map (seen s (vec-items (book .properties))) path)
+  pub record Watches (book : Book) (path : List Position) (board : List V) : Type 0 where
+    pub each : (i : ℕ) (f : Formula) → Stands (vec-items (book .formulas)) i f → viewed s (part i board) ≡ run s f (begin s) (map (seen s (vec-items (book .properties))) path)
 
   -- what a recording leaves: the working values are bottom, and what lies behind them is as it was
   pub record Tidy (count : ℕ) (old new : List V) : Type 0 where

@@ -78,7 +78,7 @@ module _ {V : Type 0} (s : Ops V) where
   -- the leaves of a set, joined
   abbrev pub joined : Set → (Slot → V) → V
   joined c v = s .either (s .either (cond (c First) (v First) (s .bottom)) (cond (c Second) (v Second) (s .bottom)))
-    (s .either (cond (c Third) (v Third) (s .bottom)) (cond (c Fourth) (v Fourth) (s .bottom)))
+      (s .either (cond (c Third) (v Third) (s .bottom)) (cond (c Fourth) (v Fourth) (s .bottom)))
 
   -- joins the trace to each value held
   abbrev pub absorb : Trace → (Set → V) → Set → V
@@ -155,16 +155,16 @@ module _ {V : Type 0} (s : Ops V) where
 
   abbrev pub stepWith : Formula → LeafValues V → (EventList → Bool) → State V → State V
   stepWith f y event b =
-    let h₁ = passed (f .first) event (b .one) (b .fresh) in
-    let h₂ = passed (f .second) event (b .two) h₁ in
-    let h₃ = passed (f .third) event (b .three) h₂ in
-    record {
-      cells = goWith (f .leaves) (f .core) h₃ y event (b .cells);
-      fresh = s .top;
-      one = held (f .first) (b .one) (b .fresh);
-      two = held (f .second) (b .two) h₁;
-      three = held (f .third) (b .three) h₂;
-    }
+      let h₁ = passed (f .first) event (b .one) (b .fresh) in
+      let h₂ = passed (f .second) event (b .two) h₁ in
+      let h₃ = passed (f .third) event (b .three) h₂ in
+      record {
+        cells = goWith (f .leaves) (f .core) h₃ y event (b .cells);
+        fresh = s .top;
+        one = held (f .first) (b .one) (b .fresh);
+        two = held (f .second) (b .two) h₁;
+        three = held (f .third) (b .three) h₂;
+      }
 
   abbrev pub step : Formula → View V → State V → State V
   step f x b = stepWith f (toldBy x (f .leaves)) (x .event) b

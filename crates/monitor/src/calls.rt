@@ -30,19 +30,36 @@ pub fn begin<H: Host, S: Scale>(host: &H, book: &Book, board: &mut [S]) -> Resul
         return Err(Refusal::TooSmall);
     }
     start_all(book.formulas.len(), board);
-    advance_all(host, book.properties.as_slice(), book.formulas.as_slice(), None, board);
+    advance_all(
+        host,
+        book.properties.as_slice(),
+        book.formulas.as_slice(),
+        None,
+        board,
+    );
     Ok(())
 }
 
 /// One position more: the host's table, and what happened.
-pub fn record<H: Host, S: Scale>(host: &H, book: &Book, event: Event, board: &mut [S]) -> Result<(), Refusal>
+pub fn record<H: Host, S: Scale>(
+    host: &H,
+    book: &Book,
+    event: Event,
+    board: &mut [S],
+) -> Result<(), Refusal>
     ensures outcome { λ r. ⌜ Outcome (S·Scale .ops) (vec-len (now (book .entry) .formulas)) (now (board .entry)) (now (board .exit)) r ⌝ }
     ensures watches { λ _. ⌜ (room (vec-len (now (book .entry) .formulas)) ≤ length (now (board .entry)) → (path : List Position) → Watches (S·Scale .ops) (now (book .entry)) path (now (board .entry)) → Watches (S·Scale .ops) (now (book .entry)) (path ++ (record { rows = H·Host .rows (now (host .entry)); event = Some event } ∷ [])) (now (board .exit))) ⌝ }
 {
     if !has_room(book.formulas.len(), board.len()) {
         return Err(Refusal::TooSmall);
     }
-    advance_all(host, book.properties.as_slice(), book.formulas.as_slice(), Some(event), board);
+    advance_all(
+        host,
+        book.properties.as_slice(),
+        book.formulas.as_slice(),
+        Some(event),
+        board,
+    );
     Ok(())
 }
 

@@ -1,4 +1,5 @@
-// Sixteen values, one for each set of the four leaves: at c the leaves of the set, joined by either.
+// The clauses of a trace: sixteen values, one for each set of the four leaves. For one start the clause of a set is its leaves joined by
+// either, over the positions since; overlapping starts are held as both of their clauses. Set c has First as bit 0, Second as bit 1, ..
 ghost use mathlib.Core.Path.{_≡_};
 ghost use mathlib.Core.Bool.{cond};
 ghost use mathlib.Core.List.{[]};
@@ -7,13 +8,14 @@ ghost use lib.ListN.{length, getD};
 ghost use Rattle.monitor.specs.Segments.{leaf};
 ghost use Rattle.monitor.specs.Monitor.{with as withSlot, without as withoutSlot, absorb as absorbed, lengthen as lengthened, grown, none, unseen as unseenBy};
 ghost use Rattle.monitor.specs.Layout.{mask, setOf, weight as weightOf, clauses};
-use ftpl::formulas::Slot;
 use ftpl::formulas::Leaf;
 use ftpl::formulas::Leaves;
+use ftpl::formulas::Slot;
 use ftpl::formulas::Trace;
 use scale::Scale;
 
-pub fn weight(j: Slot) -> usize
+/// The bit of a slot.
+fn weight(j: Slot) -> usize
     ensures { λ r. ⌜ r ≡ weightOf j ⌝ }
 {
     match j {
@@ -24,7 +26,7 @@ pub fn weight(j: Slot) -> usize
     }
 }
 
-pub fn has(j: Slot, c: usize) -> bool
+fn has(j: Slot, c: usize) -> bool
     ensures { λ r. ⌜ r ≡ setOf c j ⌝ }
 {
     match j {
@@ -35,14 +37,14 @@ pub fn has(j: Slot, c: usize) -> bool
     }
 }
 
-pub fn with(j: Slot, c: usize) -> usize
+fn with(j: Slot, c: usize) -> usize
     requires { ⌜ c < 16 ⌝ }
     ensures { λ r. ⌜ r ≡ mask (withSlot j (setOf c)) ⌝ ∗ ⌜ r < 16 ⌝ }
 {
     if has(j, c) { c } else { c + weight(j) }
 }
 
-pub fn without(j: Slot, c: usize) -> usize
+fn without(j: Slot, c: usize) -> usize
     requires { ⌜ c < 16 ⌝ }
     ensures { λ r. ⌜ r ≡ mask (withoutSlot j (setOf c)) ⌝ ∗ ⌜ r < 16 ⌝ }
 {

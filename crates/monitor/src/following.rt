@@ -70,7 +70,13 @@ pub fn start_all<S: Scale>(formulas: usize, board: &mut [S])
 }
 
 /// Goes on with each formula by one position: the host's table, and what happened.
-pub fn advance_all<H: Host, S: Scale>(host: &H, properties: &[Property], formulas: &[Formula], event: Option<Event>, board: &mut [S])
+pub fn advance_all<H: Host, S: Scale>(
+    host: &H,
+    properties: &[Property],
+    formulas: &[Formula],
+    event: Option<Event>,
+    board: &mut [S],
+)
     requires { ⌜ room (length (now formulas)) ≤ length (now board) ⌝ }
     ensures stepped { λ _. ⌜ Stepped (S·Scale .ops) (now (formulas .entry)) (λ f. step (S·Scale .ops) f (seen (S·Scale .ops) (now (properties .entry)) (record { rows = H·Host .rows (now (host .entry)); event = event }))) (now (board .entry)) (now (board .exit)) ⌝ }
     ensures tidy { λ _. ⌜ Tidy (S·Scale .ops) (length (now (formulas .entry))) (now (board .entry)) (now (board .exit)) ⌝ }

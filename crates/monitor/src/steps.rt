@@ -1,4 +1,6 @@
 // One step of the monitor on one formula's cells.
+// A lock is a value of the scale: bottom is open, top is shut. A start is merged by both behind its lock, `both held (either lock start)`,
+// so a shut lock changes nothing, and a second start joins the first and never replaces it.
 ghost use mathlib.Core.Path.{_≡_};
 ghost use Prim.Native.Nat.{ℕ, _<_, _≤_};
 ghost use lib.ListN.{length, getD};
@@ -20,6 +22,18 @@ use ftpl::formulas::Formula;
 use ftpl::formulas::Slot;
 use scale::Scale;
 
+// Where a formula's cells stand behind the sixteen clauses; those from 21 on are not used.
+/// what `before` has come to
+const KEPT: usize = 16;
+/// the lock of the one start at the first position
+const FRESH: usize = 17;
+/// the locks of the up to three `after`s
+const LOCK_ONE: usize = 18;
+
+const LOCK_TWO: usize = 19;
+
+const LOCK_THREE: usize = 20;
+
 /// The lock of an `after` once the lock before it is h.
 fn hold<S: Scale>(o: Option<EventList>, a: S, h: S) -> S
     ensures { λ r. ⌜ r ≡ held (S·Scale .ops) o a h ⌝ }
@@ -36,32 +50,22 @@ fn pass<S: Scale>(o: Option<EventList>, event: Option<Event>, a: S, h: S) -> S
 {
     match o {
         None => h,
-        Some(e) => {
-            if holds(e, event) {
-                a.both(h)
-            } else {
-                S::top()
-            }
-        }
+        Some(e) => { if holds(e, event) { a.both(h) } else { S::top() } }
     }
 }
 
+/// What the core's event does to the clauses of the starts so far: `until` joins the trace to each.
 fn happen_row<S: Scale>(core: &Core, event: Option<Event>, w: [S; 16]) -> [S; 16]
     ensures { λ r. ⌜ clauses (S·Scale .ops) r ≡ happenRow (S·Scale .ops) (now (core .entry)) (λ e. holdsAt e event) (clauses (S·Scale .ops) w) ⌝ }
 {
     match core {
         Core::Plain(_) => w,
         Core::Before(_, _) => w,
-        Core::Until(t, e) => {
-            if holds(*e, event) {
-                absorb(t, w)
-            } else {
-                w
-            }
-        }
+        Core::Until(t, e) => { if holds(*e, event) { absorb(t, w) } else { w } }
     }
 }
 
+/// What the core's event does to the value kept: `before` takes the trace over the positions before.
 fn happen_kept<S: Scale>(core: &Core, event: Option<Event>, w: [S; 16], kept: S) -> S
     ensures { λ r. ⌜ r ≡ happenKept (S·Scale .ops) (now (core .entry)) (λ e. holdsAt e event) (clauses (S·Scale .ops) w) kept ⌝ }
 {
@@ -78,7 +82,14 @@ fn happen_kept<S: Scale>(core: &Core, event: Option<Event>, w: [S; 16], kept: S)
     }
 }
 
-fn go_row<S: Scale>(f: &Formula, h: S, values: LeafValues<S>, event: Option<Event>, w: [S; 16]) -> [S; 16]
+/// The clauses after one position: the event on the starts so far, then the new start, then the position itself.
+fn go_row<S: Scale>(
+    f: &Formula,
+    h: S,
+    values: LeafValues<S>,
+    event: Option<Event>,
+    w: [S; 16],
+) -> [S; 16]
     ensures { λ r. ⌜ clauses (S·Scale .ops) r ≡ goRow (S·Scale .ops) (now (f .entry) .leaves) (now (f .entry) .core) h values (λ e. holdsAt e event) (clauses (S·Scale .ops) w) ⌝ }
 {
     let w = happen_row(&f.core, event, w);
@@ -104,16 +115,22 @@ pub fn show<S: Scale>(f: &Formula, cells: &[S]) -> S
     requires { ⌜ 21 ≤ length (now cells) ⌝ }
     ensures { λ r. ⌜ r ≡ shown (S·Scale .ops) (now (f .entry)) (viewed (S·Scale .ops) (now (cells .entry))) ⌝ }
 {
-    read(&f.core, load(cells), cells[16])
+    read(&f.core, load(cells), cells[KEPT])
 }
 
-fn go_cells<S: Scale>(f: &Formula, h: S, values: LeafValues<S>, event: Option<Event>, cells: &mut [S])
+fn go_cells<S: Scale>(
+    f: &Formula,
+    h: S,
+    values: LeafValues<S>,
+    event: Option<Event>,
+    cells: &mut [S],
+)
     requires { ⌜ 21 ≤ length (now cells) ⌝ }
     ensures made { λ _. ⌜ cellsOf (S·Scale .ops) (now (cells .exit)) ≡ goWith (S·Scale .ops) (now (f .entry) .leaves) (now (f .entry) .core) h values (λ e. holdsAt e event) (cellsOf (S·Scale .ops) (now (cells .entry))) ⌝ }
     ensures rest { λ _. ⌜ ((k : ℕ) → 17 ≤ k → getD (now (cells .exit)) k (S·Scale .ops .top) ≡ getD (now (cells .entry)) k (S·Scale .ops .top)) ⌝ }
 {
     let w = load(cells);
-    cells[16] = happen_kept(&f.core, event, w, cells[16]);
+    cells[KEPT] = happen_kept(&f.core, event, w, cells[KEPT]);
     store(go_row(f, h, values, event, w), cells);
 }
 
@@ -121,10 +138,10 @@ fn put_locks<S: Scale>(one: S, two: S, three: S, cells: &mut [S])
     requires { ⌜ 21 ≤ length (now cells) ⌝ }
     ensures { λ _. ⌜ Locked (S·Scale .ops) (now (cells .entry)) (now (cells .exit)) one two three ⌝ }
 {
-    cells[17] = S::top();
-    cells[18] = one;
-    cells[19] = two;
-    cells[20] = three;
+    cells[FRESH] = S::top();
+    cells[LOCK_ONE] = one;
+    cells[LOCK_TWO] = two;
+    cells[LOCK_THREE] = three;
 }
 
 /// Goes on by one position, at which the leaves have these values and this happened.
@@ -133,15 +150,20 @@ pub fn advance<S: Scale>(f: &Formula, values: LeafValues<S>, event: Option<Event
     ensures step { λ _. ⌜ viewed (S·Scale .ops) (now (cells .exit)) ≡ stepWith (S·Scale .ops) (now (f .entry)) values (λ e. holdsAt e event) (viewed (S·Scale .ops) (now (cells .entry))) ⌝ }
     ensures rest { λ _. ⌜ ((k : ℕ) → 21 ≤ k → getD (now (cells .exit)) k (S·Scale .ops .top) ≡ getD (now (cells .entry)) k (S·Scale .ops .top)) ⌝ }
 {
-    let fresh = cells[17];
-    let one = cells[18];
-    let two = cells[19];
-    let three = cells[20];
+    let fresh = cells[FRESH];
+    let one = cells[LOCK_ONE];
+    let two = cells[LOCK_TWO];
+    let three = cells[LOCK_THREE];
     let h1 = pass(f.first, event, one, fresh);
     let h2 = pass(f.second, event, two, h1);
     let h3 = pass(f.third, event, three, h2);
     go_cells(f, h3, values, event, cells);
-    put_locks(hold(f.first, one, fresh), hold(f.second, two, h1), hold(f.third, three, h2), cells);
+    put_locks(
+        hold(f.first, one, fresh),
+        hold(f.second, two, h1),
+        hold(f.third, three, h2),
+        cells,
+    );
 }
 
 fn clear<S: Scale>(cells: &mut [S])
@@ -161,5 +183,5 @@ pub fn start<S: Scale>(cells: &mut [S])
     ensures rest { λ _. ⌜ ((k : ℕ) → 21 ≤ k → getD (now (cells .exit)) k (S·Scale .ops .top) ≡ getD (now (cells .entry)) k (S·Scale .ops .top)) ⌝ }
 {
     clear(cells);
-    cells[17] = S::bottom();
+    cells[FRESH] = S::bottom();
 }

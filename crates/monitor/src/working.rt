@@ -49,7 +49,12 @@ fn is_named(formulas: &[Formula], number: u8) -> bool
 }
 
 /// The value of a listed property that a formula names, once a position; bottom of any other.
-fn needed_value<H: Host, S: Scale>(host: &H, properties: &[Property], formulas: &[Formula], number: u8) -> S
+fn needed_value<H: Host, S: Scale>(
+    host: &H,
+    properties: &[Property],
+    formulas: &[Formula],
+    number: u8,
+) -> S
     ensures { λ r. ⌜ ((i : ℕ) (f : Formula) (j : Slot) → Stands (now (formulas .entry)) i f → numberOf (leafAt (f .leaves) j) ≡ number → r ≡ numberedValue (S·Scale .ops) (H·Host .rows (now (host .entry))) (now (properties .entry)) number) ⌝ }
 {
     if number as usize <= properties.len() && is_named(formulas, number) {
@@ -60,7 +65,12 @@ fn needed_value<H: Host, S: Scale>(host: &H, properties: &[Property], formulas: 
 }
 
 /// Sets the working values to what the properties that formulas name are worth on the host's table.
-pub fn fill<H: Host, S: Scale>(host: &H, properties: &[Property], formulas: &[Formula], values: &mut [S])
+pub fn fill<H: Host, S: Scale>(
+    host: &H,
+    properties: &[Property],
+    formulas: &[Formula],
+    values: &mut [S],
+)
     requires { ⌜ length (now values) ≡ 64 ⌝ }
     ensures { λ _. ⌜ Ready (S·Scale .ops) (H·Host .rows (now (host .entry))) (now (properties .entry)) (now (formulas .entry)) (now (values .exit)) ⌝ }
 {

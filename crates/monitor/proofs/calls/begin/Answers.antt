@@ -29,6 +29,6 @@ returns g c =
         tidy = λ h. (refl, tidy-since s n old mid new kept (tidy-by s _ n mid new (c .as-slice-2 .ensures .len) (c .advance-all .ensures .tidy)));
       };
       watches = λ h.
-        watches-first s book x mid new (λ i l. c .start-all .ensures .started i (omega arith)) (sym (ap length (c .as-slice-2 .ensures .value)) ∙ c .as-slice-2 .ensures .len)
-        (by-book s _ (vec-items (book .formulas)) _ (vec-items (book .properties)) x mid new (c .as-slice-2 .ensures .value) (c .as-slice .ensures .value) (c .advance-all .ensures .stepped));
+          watches-first s book x mid new (λ i l. c .start-all .ensures .started i (omega arith)) (sym (ap length (c .as-slice-2 .ensures .value)) ∙ c .as-slice-2 .ensures .len)
+          (by-book s _ (vec-items (book .formulas)) _ (vec-items (book .properties)) x mid new (c .as-slice-2 .ensures .value) (c .as-slice .ensures .value) (c .advance-all .ensures .stepped));
     }

@@ -30,5 +30,5 @@ returns g c =
       small = λ h. absurd (omega arith);
       none = λ h no. absurd (no some (omega arith));
       value = λ h a b path l w.
-        ap Ok (c .show-at .ensures ∙ ap (shown s f) (w (n - 1) f (record { inside = omega arith; is = stands })) ∙ watched-value s (g .S·Scale .laws) ps f path l ∙ sym (shown-some s ps fs path n f some few stands));
+          ap Ok (c .show-at .ensures ∙ ap (shown s f) (w .each (n - 1) f (record { inside = omega arith; is = stands })) ∙ watched-value s (g .S·Scale .laws) ps f path l ∙ sym (shown-some s ps fs path n f some few stands));
     }

@@ -25,6 +25,6 @@ returns g c =
         tidy = λ h. (refl, tidy-by s _ _ old new (c .as-slice-2 .ensures .len) (c .advance-all .ensures .tidy));
       };
       watches = λ h path w.
-        watches-more s book x (g .S·Scale .laws) old new path
-        (by-book s _ (vec-items (book .formulas)) _ (vec-items (book .properties)) x old new (c .as-slice-2 .ensures .value) (c .as-slice .ensures .value) (c .advance-all .ensures .stepped)) w;
+          watches-more s book x (g .S·Scale .laws) old new path
+          (by-book s _ (vec-items (book .formulas)) _ (vec-items (book .properties)) x old new (c .as-slice-2 .ensures .value) (c .as-slice .ensures .value) (c .advance-all .ensures .stepped)) w;
     }

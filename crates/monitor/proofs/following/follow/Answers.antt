@@ -23,7 +23,7 @@ loop-i-again g c =
     let kept = c .loop-i .inv .todo in
     gone-more (Going s fs go old) old now new n (c .loop-i .inv)
     (going-here s go old (viewed s (part n new)) x (c .index-formulas-i .is)
-      (c .follow-at .ensures .part ∙ ap₂ (λ (ws ps : List (g .S .Denot)). stepWith s x (valuesIn s ws (x .leaves)) (λ e. holds e (c .args .event)) (viewed s ps)) (working-todo old now n (length fs) (omega arith) kept) (part-todo old now n kept)))
+    (c .follow-at .ensures .part ∙ ap₂ (λ (ws ps : List (g .S .Denot)). stepWith s x (valuesIn s ws (x .leaves)) (λ e. holds e (c .args .event)) (viewed s ps)) (working-todo old now n (length fs) (omega arith) kept) (part-todo old now n kept)))
     (c .follow-at .ensures .before)
     (c .follow-at .ensures .beyond)
 

@@ -45,6 +45,6 @@ returns g c =
     let inside : 16 < length xs = omega arith in
     record {
       made = cells-made s (c .args .f .now .leaves) (c .args .f .now .core) (c .args .h) (c .args .values) (λ e. holds e (c .args .event)) xs (c .store .last .cells)
-        inside (c .load-w .ensures) (getD-read xs 16 (c .index-cells-16 .result) inside (c .index-cells-16 .is) (s .top)) (c .happen-kept .ensures) (c .go-row .ensures) (c .store .ensures .row) (c .store .ensures .rest 16 (omega arith));
+          inside (c .load-w .ensures) (getD-read xs 16 (c .index-cells-16 .result) inside (c .index-cells-16 .is) (s .top)) (c .happen-kept .ensures) (c .go-row .ensures) (c .store .ensures .row) (c .store .ensures .rest 16 (omega arith));
       rest = λ k h. let ne : k ≢ 16 = omega arith in c .store .ensures .rest k (omega arith) ∙ getD-set-other xs 16 k (c .happen-kept .result) (s .top) ne;
     }

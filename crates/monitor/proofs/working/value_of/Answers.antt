@@ -11,7 +11,7 @@ returns-else-count-ge1 g c =
     let n = c .args .number in
     c .bottom .ensures
     ∙ sym
-      (elim (c .else-count-ge1 .came) [
-        else-count-ge1·by·then-count-ge1·else-count-values w ↦ working-none s xs n (omega arith)
+    (elim (c .else-count-ge1 .came) [
+      | else-count-ge1·by·then-count-ge1·else-count-values w ↦ working-none s xs n (omega arith)
       | else-count-ge1·by·else-count-ge1 w ↦ working-zero s xs n (omega arith)
-      ])
+    ])
