@@ -45,36 +45,74 @@ struct Moment {
 }
 
 fn at_moment(value: i32, up: u32, operation: u8, kind: EventKind) -> Moment {
-    Moment { value, up, event: Event { operation, kind } }
+    Moment {
+        value,
+        up,
+        event: Event { operation, kind },
+    }
 }
 
 fn property(quantifier: Quantifier, kind: VariableKind, test: Test) -> Property {
-    Property { outer: Binder { quantifier, kind }, inner: None, tests: Tests::Single(test) }
+    Property {
+        outer: Binder { quantifier, kind },
+        inner: None,
+        tests: Tests::Single(test),
+    }
 }
 
 // 1: all v:par : atmost v 10; 2: some v:comp : up v; 3: all v:par : atmost v 4
 fn properties(heap: Global) -> Result<Vec<Property>, AllocError> {
     let mut all = Vec::new(heap);
     let left = Variable::Outer;
-    all.push(property(Quantifier::ForAll, VariableKind::Parameter, Test::AtMostNumber { left, number: 10 }))?;
-    all.push(property(Quantifier::Exists, VariableKind::Component, Test::Up { subject: left }))?;
-    all.push(property(Quantifier::ForAll, VariableKind::Parameter, Test::AtMostNumber { left, number: 4 }))?;
+    all.push(property(
+        Quantifier::ForAll,
+        VariableKind::Parameter,
+        Test::AtMostNumber { left, number: 10 },
+    ))?;
+    all.push(property(
+        Quantifier::Exists,
+        VariableKind::Component,
+        Test::Up { subject: left },
+    ))?;
+    all.push(property(
+        Quantifier::ForAll,
+        VariableKind::Parameter,
+        Test::AtMostNumber { left, number: 4 },
+    ))?;
     Ok(all)
 }
 
 // (always 1 | eventually 2) & (never 3 | eventually 1)
 fn trace(heap: Global) -> Result<Trace, AllocError> {
-    let left = Trace::Either(Box::new(heap, Trace::At(Slot::First))?, Box::new(heap, Trace::At(Slot::Second))?);
-    let right = Trace::Either(Box::new(heap, Trace::At(Slot::Third))?, Box::new(heap, Trace::At(Slot::Fourth))?);
+    let left = Trace::Either(
+        Box::new(heap, Trace::At(Slot::First))?,
+        Box::new(heap, Trace::At(Slot::Second))?,
+    );
+    let right = Trace::Either(
+        Box::new(heap, Trace::At(Slot::Third))?,
+        Box::new(heap, Trace::At(Slot::Fourth))?,
+    );
     Ok(Trace::Both(Box::new(heap, left)?, Box::new(heap, right)?))
 }
 
 // [5 called]
-const CALLED_5: EventList = EventList { called: 32, normal: 0, exceptional: 0 };
+const CALLED_5: EventList = EventList {
+    called: 32,
+    normal: 0,
+    exceptional: 0,
+};
 // [5 terminates]
-const ENDED_5: EventList = EventList { called: 0, normal: 32, exceptional: 32 };
+const ENDED_5: EventList = EventList {
+    called: 0,
+    normal: 32,
+    exceptional: 32,
+};
 // [5 called, 6 normal]
-const MIXED: EventList = EventList { called: 32, normal: 64, exceptional: 0 };
+const MIXED: EventList = EventList {
+    called: 32,
+    normal: 64,
+    exceptional: 0,
+};
 
 // the first: T; the second: before [5 called] T; the third: T until [5 called]
 fn core(heap: Global, form: u8) -> Result<Core, AllocError> {
@@ -109,18 +147,45 @@ fn book(heap: Global) -> Result<Book, AllocError> {
             formulas.push(formula(heap, afters, form)?)?;
         }
     }
-    Ok(Book { properties: properties(heap)?, conditions: Vec::new(heap), formulas })
+    Ok(Book {
+        properties: properties(heap)?,
+        conditions: Vec::new(heap),
+        formulas,
+    })
 }
 
 // a component at 0 and its parameter at 1
 fn set(host: &mut Plain, now: Moment) {
-    let component = Row { kind: COMPONENT, name: 99 << 56, owner: NONE, link: NONE, up: now.up, lo: 0, hi: 0, value: 0 };
-    let parameter = Row { kind: PARAMETER, name: 97 << 56, owner: 0, link: NONE, up: 0, lo: 0, hi: 100, value: now.value };
+    let component = Row {
+        kind: COMPONENT,
+        name: 99 << 56,
+        owner: NONE,
+        link: NONE,
+        up: now.up,
+        lo: 0,
+        hi: 0,
+        value: 0,
+    };
+    let parameter = Row {
+        kind: PARAMETER,
+        name: 97 << 56,
+        owner: 0,
+        link: NONE,
+        up: 0,
+        lo: 0,
+        hi: 100,
+        value: now.value,
+    };
     let _ = host.write(0, component);
     let _ = host.write(1, parameter);
 }
 
-fn show(rt: &LibcRuntime, book: &Book, position: usize, board: &[Beside<bool, Distance>]) -> io::Result<()> {
+fn show(
+    rt: &LibcRuntime,
+    book: &Book,
+    position: usize,
+    board: &[Beside<bool, Distance>],
+) -> io::Result<()> {
     for number in 1..13u8 {
         match read(book, number, board) {
             Ok(value) => {
@@ -148,11 +213,18 @@ fn main(rt: LibcRuntime) -> io::Result<()> {
         at_moment(4, 0, 5, EventKind::Called),
         at_moment(6, 1, 6, EventKind::Normal),
     ];
-    let mut board = [Beside { first: false, second: Distance::new(1) }; 544];
+    let mut board = [Beside {
+        first: false,
+        second: Distance::new(1),
+    }; 544];
     let mut host = Plain::new();
     for (position, now) in path.iter().enumerate() {
         set(&mut host, *now);
-        let outcome = if position == 0 { begin(&host, &watched, &mut board) } else { record(&host, &watched, now.event, &mut board) };
+        let outcome = if position == 0 {
+            begin(&host, &watched, &mut board)
+        } else {
+            record(&host, &watched, now.event, &mut board)
+        };
         if outcome.is_err() {
             println!(rt, "refused")?;
         }
