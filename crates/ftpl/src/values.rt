@@ -13,14 +13,16 @@ use crate::properties::Test;
 use crate::properties::Tests;
 use crate::properties::Variable;
 use crate::properties::VariableKind;
+use host::COMPONENT;
 use host::Host;
+use host::NONE;
+use host::PARAMETER;
+use host::PROVIDED;
+use host::REQUIRED;
 use host::row_at;
 use host::same_name;
 use scale::Scale;
 use scale::YesNo;
-
-/// No place: what `w` stands for without a second quantifier.
-const NOWHERE: u8 = 255;
 
 fn place_of(v: u8, w: u8, variable: Variable) -> u8
     ensures { λ r. ⌜ r ≡ placeOf v w variable ⌝ }
@@ -106,10 +108,10 @@ fn kind_number(kind: VariableKind) -> u8
     ensures { λ r. ⌜ r ≡ kindNumber kind ⌝ }
 {
     match kind {
-        VariableKind::Component => 1,
-        VariableKind::Provided => 2,
-        VariableKind::Required => 3,
-        VariableKind::Parameter => 4,
+        VariableKind::Component => COMPONENT,
+        VariableKind::Provided => PROVIDED,
+        VariableKind::Required => REQUIRED,
+        VariableKind::Parameter => PARAMETER,
     }
 }
 
@@ -155,7 +157,8 @@ fn value_at<H: Host, S: Scale>(host: &H, property: &Property, v: u8) -> S
     ensures { λ r. ⌜ r ≡ valueAt (S·Scale .ops) (H·Host .rows (now (host .entry))) (now (property .entry) .inner) (now (property .entry) .tests) v ⌝ }
 {
     match property.inner {
-        None => tests_value(host, v, NOWHERE, &property.tests),
+        // w stands for no place
+        None => tests_value(host, v, NONE, &property.tests),
         Some(binder) => value_over(host, binder, v, &property.tests),
     }
 }

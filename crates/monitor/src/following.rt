@@ -1,6 +1,7 @@
 // The formulas of a book on one board, forty values each.
 ghost use mathlib.Core.Path.{_≡_};
-ghost use Prim.Native.Nat.{ℕ, _+_, _*_, _<_, _≤_};
+ghost use Prim.Native.Nat.{ℕ, _+_, _*_, _^_, _<_, _≤_};
+ghost use Rattle.std.specs.Options.{Cases as BySome};
 ghost use lib.Dec.{leb};
 ghost use lib.ListN.{length, take, drop};
 ghost use Rattle.std.specs.Holes.{between};
@@ -25,6 +26,13 @@ pub fn has_room(formulas: usize, values: usize) -> bool
     ensures { λ r. ⌜ r ≡ leb (room formulas) values ⌝ }
 {
     values >= 64 && formulas <= (values - 64) / 40
+}
+
+/// The values that a board needs for so many formulas; none where no board can be that long.
+pub fn board_length(formulas: usize) -> Option<usize>
+    ensures { λ r. ⌜ BySome r (2 ^ 64 ≤ room formulas) (λ n. n ≡ room formulas) ⌝ }
+{
+    formulas.checked_mul(40)?.checked_add(64)
 }
 
 fn follow_at<S: Scale>(f: &Formula, event: Option<Event>, at: usize, base: usize, board: &mut [S])

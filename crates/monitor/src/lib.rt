@@ -9,4 +9,5 @@ mod working;
 pub use calls::begin;
 pub use calls::read;
 pub use calls::record;
+pub use following::board_length;
 pub use following::has_room;
