@@ -25,6 +25,7 @@ table-edges = record {
   no-parameters = λ t x none. ap (λ (ks : List ℕ). all distance (map (λ v. testsValue distance t v 255 x) ks) .value) none;
   equal = λ t v w e. ap (λ z. distance .grade z .value) (same-margin (rowAt t v .value) (rowAt t w .value) e);
   equal-turned = λ t v w e. ap (λ z. negℤ (distance .grade z .value)) (same-margin (rowAt t v .value) (rowAt t w .value) e);
+  uncut = λ y z a b c d. omega (arith, ints, clamps);
 }
 
 module _ {V : Type 0} (s : Ops V) (p : Laws s) where

@@ -3,14 +3,15 @@ use mathlib.Core.Path.{_≡_}
 use mathlib.Core.Bool.{true, false}
 use mathlib.Core.List.{List, [], _∷_}
 use Prim.Native.Nat.{ℕ}
-use lib.IntN.{ℤ, pos, negsuc}
+use lib.IntN.{ℤ, pos, negsuc, _-ℤ_}
+use lib.Signed.{_≤ℤ_}
 use Rattle.std.specs.declared.option.Option.the-variants.{None, Some}
 use Rattle.scale.specs.Laws.{Ops}
 use Rattle.scale.specs.YesNo.{yesNo}
 use Rattle.scale.specs.Distances.{distance}
 use Rattle.host.specs.declared.rows.Row.{Row}
 use Rattle.host.specs.Tables.{rowAt}
-use Rattle.ftpl.specs.Properties.{placesOf, testValue, propertyValue}
+use Rattle.ftpl.specs.Properties.{placesOf, margin, testValue, propertyValue}
 use Rattle.ftpl.specs.Paths.{Position, holds}
 use Rattle.ftpl.specs.Formulas.{formulaValue}
 use Rattle.ftpl.specs.declared.properties.Quantifier.the-variants.{ForAll}
@@ -30,6 +31,8 @@ pub record TableEdges : Type 0 where
   -- `atmost` of equal values has distance 1, turned −1
   pub equal : (t : List Row) (v w : ℕ) → rowAt t v .value ≡ rowAt t w .value → testValue distance t v w (AtMost Outer Inner) .value ≡ pos 1
   pub equal-turned : (t : List Row) (v w : ℕ) → rowAt t v .value ≡ rowAt t w .value → distance .turn (testValue distance t v w (AtMost Outer Inner)) .value ≡ negsuc 0
+  -- of numbers within a million nothing is cut from the difference
+  pub uncut : (y z : ℤ) → negsuc 999999 ≤ℤ y → y ≤ℤ pos 1000000 → negsuc 999999 ≤ℤ z → z ≤ℤ pos 1000000 → margin y z ≡ z -ℤ y
 
 pub record PathEdges {V : Type 0} (s : Ops V) : Type 0 where
   -- after a start at E, until the same E does not count that start

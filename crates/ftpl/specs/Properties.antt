@@ -1,7 +1,8 @@
 -- The value of a property on a table, in any scale.
-use mathlib.Core.Bool.{Bool, cond}
+use mathlib.Core.Path.{_≡_}
+use mathlib.Core.Bool.{Bool, true, cond}
 use mathlib.Core.List.{List, [], _∷_, map}
-use Prim.Native.Nat.{ℕ}
+use Prim.Native.Nat.{ℕ, _<_}
 use lib.Dec.{eqb}
 use lib.IntN.{ℤ, pos, negsuc, _-ℤ_}
 use lib.ListN.{length, getD, take}
@@ -99,3 +100,7 @@ module _ {V : Type 0} (s : Ops V) (t : List Row) where
 abbrev pub firstBroken : List Row → List Property → List ℕ → Option ℕ
 firstBroken t ps [] = None
 firstBroken t ps (n ∷ ns) = cond (numberedValue yesNo t ps n) (firstBroken t ps ns) (Some n)
+
+-- every one of the numbered properties is yes on the table
+abbrev pub Met : List Row → List Property → List ℕ → Type 0
+Met t ps ns = (k : ℕ) → k < length ns → numberedValue yesNo t ps (getD ns k 0) ≡ true
