@@ -1,0 +1,4 @@
+pub mod Quantified
+pub mod Numbered
+pub mod Conditions
+pub mod Marked

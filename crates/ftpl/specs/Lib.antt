@@ -1,0 +1,5 @@
+pub mod Joins
+pub mod Properties
+pub mod Paths
+pub mod Formulas
+pub mod Edges

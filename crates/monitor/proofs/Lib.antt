@@ -1,0 +1,12 @@
+pub mod Lattice
+pub mod Linear
+pub mod Single
+pub mod Whole
+pub mod Masks
+pub mod Traces
+pub mod Numbered
+pub mod Made
+pub mod Filled
+pub mod Spans
+pub mod Followed
+pub mod Watching

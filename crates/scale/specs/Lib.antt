@@ -1,0 +1,5 @@
+pub mod Laws
+pub mod YesNo
+pub mod Odd
+pub mod Distances
+pub mod SideBySide
