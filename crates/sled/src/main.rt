@@ -1,15 +1,18 @@
 // The sled's program: reads a rack's table from a text, puts it into the sled's packed image through its bay,
-// reads it back and writes it as text again.
+// says whether it is lawful, reads it back and writes it as text again.
 use host::Bay;
 use host::BayHost;
 use host::Host;
 use host::Packed;
 use host::PackedHost;
 use host::Refusal;
+use host::Rule;
 use host::row_at;
 use std::env;
 use std::error::AnyError;
 use std::fs;
+use table::Breach;
+use table::check;
 use table_text::WrongWord;
 use table_text::put_table;
 use table_text::read_table;
@@ -35,6 +38,38 @@ fn print_wrong_word(rt: &LibcRuntime, wrong: &WrongWord<'_>) -> Result<(), AnyEr
         rt,
         "refused by {number}: line {line}, byte {byte}: wrong word \"{word}\""
     )?;
+    Ok(())
+}
+
+fn rule_in_words(rule: Rule) -> &'static str {
+    match rule {
+        Rule::KnownKind => "the kind is none of the four, or an empty row is not empty",
+        Rule::OwnFields => "a link, a range, a value or a start where the kind has none",
+        Rule::NameForm => "the name is not 1 to 8 letters or digits",
+        Rule::OwnerIsComponent => "the owner is no component",
+        Rule::ParameterOwner => "the parameter's owner owns a component",
+        Rule::Range => "the range is not -1000000 <= lo <= value <= hi <= 1000000",
+        Rule::LinkEnd => "the link does not lead to a required interface",
+        Rule::LinkOwners =>
+            "the owners of the linked interfaces do not differ, or do not share one component as owner",
+        Rule::OwnersEnd => "going from owner to owner does not end",
+        Rule::OwnName => "a lower row of the same owner has the same name",
+    }
+}
+
+fn print_lawfulness<H: Host>(rt: &LibcRuntime, host: &H) -> Result<(), AnyError> {
+    match check(host) {
+        Ok(()) => println!(rt, "the table is lawful")?,
+        Err(Breach { place, rule }) => {
+            let number = Refusal::Unlawful { place, rule }.number();
+            let rule_number = rule.number();
+            let words = rule_in_words(rule);
+            println!(
+                rt,
+                "refused by {number}: place {place} breaks rule {rule_number}: {words}"
+            )?;
+        }
+    }
     Ok(())
 }
 
@@ -80,6 +115,7 @@ fn store(rt: &LibcRuntime, rows: &[host::Row; 255]) -> Result<(), AnyError> {
                 "put into the bay: {capacity} places from place {BAY_FIRST} of an image of {IMAGE_ROWS} rows"
             )?;
             println!(rt, "read back: {filled} filled rows")?;
+            print_lawfulness(rt, &bay)?;
             print_table(rt, &bay)?;
         }
         Err(refusal) => {
