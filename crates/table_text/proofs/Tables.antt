@@ -7,9 +7,13 @@ use native.Mathlib.Omega.{arith}
 use lib.Dec.{eqb}
 use lib.ListN.{length, getD, set, take, drop, length-append, length-take}
 use Rattle.std.specs.Joined.{joined}
-use Rattle.std.proofs.shelf.Lists.{take-more, append-nil, take-append-drop, length-take-le, take-all, set-append-right, drop-more}
+use Rattle.std.proofs.shelf.Lists.{take-more, append-nil, take-append-drop, length-take-le, take-all, set-append-right, drop-more, getD-past}
 use Rattle.std.specs.Iters.{counting}
-use Rattle.std.proofs.shelf.Counted.{length-map-counting, map-counting-more}
+use Rattle.std.proofs.shelf.Counted.{length-map-counting, map-counting-more, getD-map-counting}
+use Rattle.std.proofs.shelf.Tests.{cond-true, cases-lt}
+use mathlib.Core.Logic.{_⊎_, inl, inr, ⊎-elim}
+use borrow.Author.Tests.{eq-eqb}
+use Rattle.table_text.specs.Placed.{Within}
 use Rattle.host.specs.Tables.{emptyRow, rowAt}
 use Rattle.host.specs.declared.rows.Row.{Row}
 use Rattle.table_text.specs.declared.lines.Line.{Line}
@@ -65,3 +69,33 @@ fill-more f u i h =
     ∙ (λ j. map f (counting 0 i) ++ set (drop-more u i emptyRow h j) (z j) (f i))
     ∙ sym (append-assoc (map f (counting 0 i)) (f i ∷ []) (drop (i + 1) u))
     ∙ ap (λ t. t ++ drop (i + 1) u) (sym (map-counting-more f 0 i i (omega arith)))
+
+-- two rows of which a text says the same: they are one row, or neither is filled
+abbrev Alike : Row → Row → Type 0
+Alike r s = (r ≡ s) ⊎ ((r .kind ≡ 0) × (s .kind ≡ 0))
+
+unfilled : (r : Row) → Alike emptyRow r → eqb (r .kind) 0 ≡ true
+unfilled r = ⊎-elim (λ e. eq-eqb (r .kind) 0 (ap (λ x. x .kind) (sym e))) (λ e. eq-eqb (r .kind) 0 (e .1))
+
+turned : (r s : Row) → Alike r s → Alike s r
+turned r s = ⊎-elim (λ e. inl (sym e)) (λ e. inr (e .1, e .0))
+
+lines-alike : (p : ℕ) (t u : List Row) → ((k : ℕ) → Alike (rowAt t k) (rowAt u k)) → linesOf p t ≡ linesOf p u
+lines-alike p [] [] h = refl
+lines-alike p [] (y ∷ u) h = lines-alike (p + 1) [] u (λ k. h (suc k)) ∙ sym (cond-true (eqb (y .kind) 0) _ _ (unfilled y (h 0)))
+lines-alike p (x ∷ t) [] h = cond-true (eqb (x .kind) 0) _ _ (unfilled x (turned x emptyRow (h 0))) ∙ lines-alike (p + 1) t [] (λ k. h (suc k))
+lines-alike p (x ∷ t) (y ∷ u) h =
+    let ih = lines-alike (p + 1) t u (λ k. h (suc k)) in
+    ⊎-elim
+    (λ (e : x ≡ y). λ i. cond (eqb (e i .kind) 0) (ih i) (record { place = p; row = e i } ∷ ih i))
+    (λ e. cond-true (eqb (x .kind) 0) _ _ (eq-eqb (x .kind) 0 (e .0)) ∙ ih ∙ sym (cond-true (eqb (y .kind) 0) _ _ (eq-eqb (y .kind) 0 (e .1))))
+    (h 0)
+
+-- a table has the same text in a host that has room for all its filled rows
+pub text-placed : (t : List Row) (n : ℕ) → Within t n → tableText (map (rowAt t) (counting 0 n)) ≡ tableText t
+text-placed t n within =
+    ap (joined lineText) (lines-alike 0 (map (rowAt t) (counting 0 n)) t (λ k.
+        ⊎-elim
+        (λ (h : k < n). inl (getD-map-counting (rowAt t) 0 n k k emptyRow h (omega arith)))
+        (λ (h : n ≤ k). inr (ap (λ r. r .kind) (getD-past (map (rowAt t) (counting 0 n)) k emptyRow (omega (arith, length-map-counting (rowAt t) 0 n))), within k h))
+        (cases-lt k n)))

@@ -8,6 +8,7 @@ mod writes;
 
 pub use lines::Key;
 pub use lines::Line;
+pub use puts::is_within;
 pub use puts::put_table;
 pub use reads::read_table;
 pub use words::WrongWord;

@@ -7,8 +7,9 @@ use lib.ListN.{length, set, drop}
 use Rattle.std.specs.Iters.{counting}
 use Rattle.std.proofs.shelf.Lists.{append-nil, drop-all}
 use Rattle.host.specs.Tables.{rowAt}
+use Rattle.table_text.specs.Lines.{tableText}
 use Rattle.table_text.specs.Placed.{Within}
-use Rattle.table_text.proofs.Tables.{fill-more}
+use Rattle.table_text.proofs.Tables.{fill-more, text-placed}
 use Rattle.table_text.proofs.puts.put_table.Needs as need
 
 pub loop-place-again : need.loop-place-again
@@ -26,6 +27,7 @@ returns-then-not-is-within g c =
     let t = c .args .table .now in
     record {
       rows = (refl, (λ within. true≢false (sym (c .is-within .ensures .1 (subst (Within t) (sym (c .capacity-capacity .ensures)) within)) ∙ c .if-not-is-within .taken)), refl);
+      text = tt;
       held = g .H·Host .still (c .args .host .now);
     }
 
@@ -35,7 +37,10 @@ returns g c =
     let u = g .H·Host .rows (c .args .host .now) in
     let i = c .loop-place .place in
     let n : i ≡ length u = omega (arith, c .capacity-capacity .ensures, c .loop-place .kept .place-end) in
+    let within = subst (Within t) (c .capacity-capacity .ensures) (c .is-within .ensures .0 (c .if-not-is-within .left)) in
+    let rows = c .loop-place .inv .0 ∙ ap (λ s. map (rowAt t) (counting 0 i) ++ s) (drop-all i u (omega (arith, n))) ∙ append-nil (map (rowAt t) (counting 0 i)) ∙ ap (λ k. map (rowAt t) (counting 0 k)) n in
     record {
-      rows = (subst (Within t) (c .capacity-capacity .ensures) (c .is-within .ensures .0 (c .if-not-is-within .left)), c .loop-place .inv .0 ∙ ap (λ s. map (rowAt t) (counting 0 i) ++ s) (drop-all i u (omega (arith, n))) ∙ append-nil (map (rowAt t) (counting 0 i)) ∙ ap (λ k. map (rowAt t) (counting 0 k)) n);
+      rows = (within, rows);
+      text = ap tableText rows ∙ text-placed t (length u) within;
       held = c .loop-place .inv .1;
     }
