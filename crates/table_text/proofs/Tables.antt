@@ -95,7 +95,7 @@ lines-alike p (x ∷ t) (y ∷ u) h =
 pub text-placed : (t : List Row) (n : ℕ) → Within t n → tableText (map (rowAt t) (counting 0 n)) ≡ tableText t
 text-placed t n within =
     ap (joined lineText) (lines-alike 0 (map (rowAt t) (counting 0 n)) t (λ k.
-        ⊎-elim
-        (λ (h : k < n). inl (getD-map-counting (rowAt t) 0 n k k emptyRow h (omega arith)))
-        (λ (h : n ≤ k). inr (ap (λ r. r .kind) (getD-past (map (rowAt t) (counting 0 n)) k emptyRow (omega (arith, length-map-counting (rowAt t) 0 n))), within k h))
-        (cases-lt k n)))
+    ⊎-elim
+    (λ (h : k < n). inl (getD-map-counting (rowAt t) 0 n k k emptyRow h (omega arith)))
+    (λ (h : n ≤ k). inr (ap (λ r. r .kind) (getD-past (map (rowAt t) (counting 0 n)) k emptyRow (omega (arith, length-map-counting (rowAt t) 0 n))), within k h))
+    (cases-lt k n)))
