@@ -59,7 +59,7 @@ fn get<S: Scale>(w: [S; 16], c: usize) -> S
 }
 
 /// The value of the empty set.
-pub fn bare<S: Scale>(w: [S; 16]) -> S
+pub(crate) fn bare<S: Scale>(w: [S; 16]) -> S
     ensures { λ r. ⌜ r ≡ clauses (S·Scale .ops) w none ⌝ }
 {
     w[0]
@@ -107,7 +107,7 @@ fn each_both<S: Scale>(a: [S; 16], b: [S; 16]) -> [S; 16]
 }
 
 /// Joins the trace to each of the sixteen values.
-pub fn absorb<S: Scale>(t: &Trace, w: [S; 16]) -> [S; 16]
+pub(crate) fn absorb<S: Scale>(t: &Trace, w: [S; 16]) -> [S; 16]
     ensures { λ r. ⌜ clauses (S·Scale .ops) r ≡ absorbed (S·Scale .ops) (now (t .entry)) (clauses (S·Scale .ops) w) ⌝ }
 {
     match t {
@@ -139,7 +139,7 @@ fn grow<S: Scale>(l: Leaf, value: S, u: S, w: S) -> S
 }
 
 /// Goes on by one position, at which the leaf's property has this value.
-pub fn lengthen<S: Scale>(j: Slot, l: Leaf, value: S, w: [S; 16]) -> [S; 16]
+pub(crate) fn lengthen<S: Scale>(j: Slot, l: Leaf, value: S, w: [S; 16]) -> [S; 16]
     ensures { λ r. ⌜ clauses (S·Scale .ops) r ≡ lengthened (S·Scale .ops) j l value (clauses (S·Scale .ops) w) ⌝ }
 {
     let mut r = w;
@@ -183,7 +183,7 @@ fn launched_at<S: Scale>(leaves: Leaves, h: S, w: [S; 16], c: usize) -> S
 }
 
 /// Merges a new start, still blank, behind the lock h.
-pub fn launch<S: Scale>(leaves: Leaves, h: S, w: [S; 16]) -> [S; 16]
+pub(crate) fn launch<S: Scale>(leaves: Leaves, h: S, w: [S; 16]) -> [S; 16]
     ensures { λ r. ⌜ clauses (S·Scale .ops) r ≡ (λ c. S·Scale .ops .both (clauses (S·Scale .ops) w c) (S·Scale .ops .either h (unseenBy (S·Scale .ops) leaves c))) ⌝ }
 {
     let mut r = w;
@@ -200,7 +200,7 @@ fn peek<S: Scale>(cells: &[S], c: usize) -> S
     cells[c]
 }
 
-pub fn load<S: Scale>(cells: &[S]) -> [S; 16]
+pub(crate) fn load<S: Scale>(cells: &[S]) -> [S; 16]
     requires { ⌜ 16 ≤ length (now cells) ⌝ }
     ensures { λ r. ⌜ clauses (S·Scale .ops) r ≡ clauses (S·Scale .ops) (now (cells .entry)) ⌝ }
 {
@@ -211,7 +211,7 @@ pub fn load<S: Scale>(cells: &[S]) -> [S; 16]
     r
 }
 
-pub fn store<S: Scale>(w: [S; 16], cells: &mut [S])
+pub(crate) fn store<S: Scale>(w: [S; 16], cells: &mut [S])
     requires { ⌜ 16 ≤ length (now cells) ⌝ }
     ensures row { λ _. ⌜ clauses (S·Scale .ops) (now (cells .exit)) ≡ clauses (S·Scale .ops) w ⌝ }
     ensures rest { λ _. ⌜ ((k : ℕ) → 16 ≤ k → getD (now (cells .exit)) k (S·Scale .ops .top) ≡ getD (now (cells .entry)) k (S·Scale .ops .top)) ⌝ }

@@ -67,7 +67,7 @@ fn start_at<S: Scale>(at: usize, board: &mut [S])
 }
 
 /// Before the first position, for so many formulas.
-pub fn start_all<S: Scale>(formulas: usize, board: &mut [S])
+pub(crate) fn start_all<S: Scale>(formulas: usize, board: &mut [S])
     requires { ⌜ room formulas ≤ length (now board) ⌝ }
     ensures started { λ _. ⌜ ((i : ℕ) → i < formulas → viewed (S·Scale .ops) (part i (now (board .exit))) ≡ begun (S·Scale .ops)) ⌝ }
     ensures beyond { λ _. ⌜ drop (40 * formulas) (now (board .exit)) ≡ drop (40 * formulas) (now (board .entry)) ⌝ }
@@ -78,7 +78,7 @@ pub fn start_all<S: Scale>(formulas: usize, board: &mut [S])
 }
 
 /// Goes on with each formula by one position: the host's table, and what happened.
-pub fn advance_all<H: Host, S: Scale>(
+pub(crate) fn advance_all<H: Host, S: Scale>(
     host: &H,
     properties: &[Property],
     formulas: &[Formula],

@@ -111,7 +111,7 @@ fn read<S: Scale>(core: &Core, w: [S; 16], kept: S) -> S
 }
 
 /// What the cells come to.
-pub fn show<S: Scale>(f: &Formula, cells: &[S]) -> S
+pub(crate) fn show<S: Scale>(f: &Formula, cells: &[S]) -> S
     requires { ⌜ 21 ≤ length (now cells) ⌝ }
     ensures { λ r. ⌜ r ≡ shown (S·Scale .ops) (now (f .entry)) (viewed (S·Scale .ops) (now (cells .entry))) ⌝ }
 {
@@ -145,7 +145,7 @@ fn put_locks<S: Scale>(one: S, two: S, three: S, cells: &mut [S])
 }
 
 /// Goes on by one position, at which the leaves have these values and this happened.
-pub fn advance<S: Scale>(f: &Formula, values: LeafValues<S>, event: Option<Event>, cells: &mut [S])
+pub(crate) fn advance<S: Scale>(f: &Formula, values: LeafValues<S>, event: Option<Event>, cells: &mut [S])
     requires { ⌜ 21 ≤ length (now cells) ⌝ }
     ensures step { λ _. ⌜ viewed (S·Scale .ops) (now (cells .exit)) ≡ stepWith (S·Scale .ops) (now (f .entry)) values (λ e. holdsAt e event) (viewed (S·Scale .ops) (now (cells .entry))) ⌝ }
     ensures rest { λ _. ⌜ ((k : ℕ) → 21 ≤ k → getD (now (cells .exit)) k (S·Scale .ops .top) ≡ getD (now (cells .entry)) k (S·Scale .ops .top)) ⌝ }
@@ -177,7 +177,7 @@ fn clear<S: Scale>(cells: &mut [S])
 }
 
 /// Before the first position: nothing is held, and the first position starts the formula.
-pub fn start<S: Scale>(cells: &mut [S])
+pub(crate) fn start<S: Scale>(cells: &mut [S])
     requires { ⌜ 21 ≤ length (now cells) ⌝ }
     ensures follows { λ _. ⌜ viewed (S·Scale .ops) (now (cells .exit)) ≡ begun (S·Scale .ops) ⌝ }
     ensures rest { λ _. ⌜ ((k : ℕ) → 21 ≤ k → getD (now (cells .exit)) k (S·Scale .ops .top) ≡ getD (now (cells .entry)) k (S·Scale .ops .top)) ⌝ }

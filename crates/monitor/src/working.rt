@@ -65,7 +65,7 @@ fn needed_value<H: Host, S: Scale>(
 }
 
 /// Sets the working values to what the properties that formulas name are worth on the host's table.
-pub fn fill<H: Host, S: Scale>(
+pub(crate) fn fill<H: Host, S: Scale>(
     host: &H,
     properties: &[Property],
     formulas: &[Formula],
@@ -80,7 +80,7 @@ pub fn fill<H: Host, S: Scale>(
 }
 
 /// Sets the working values back to bottom.
-pub fn clear<S: Scale>(values: &mut [S])
+pub(crate) fn clear<S: Scale>(values: &mut [S])
     requires { ⌜ length (now values) ≡ 64 ⌝ }
     ensures { λ _. ⌜ now (values .exit) ≡ replicate 64 (S·Scale .ops .bottom) ⌝ }
 {
@@ -101,7 +101,7 @@ fn value_of<S: Scale>(values: &[S], number: u8) -> S
 }
 
 /// The working values of a trace's leaves.
-pub fn values_of<S: Scale>(values: &[S], leaves: Leaves) -> LeafValues<S>
+pub(crate) fn values_of<S: Scale>(values: &[S], leaves: Leaves) -> LeafValues<S>
     ensures { λ r. ⌜ r ≡ valuesIn (S·Scale .ops) (now (values .entry)) leaves ⌝ }
 {
     LeafValues {

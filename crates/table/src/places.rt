@@ -11,7 +11,7 @@ use host::row_at;
 use host::same_name;
 
 /// Whether some row of a kind has `owner` as owner.
-pub fn owns<H: Host>(host: &H, owner: u8, kind: u8) -> bool
+pub(crate) fn owns<H: Host>(host: &H, owner: u8, kind: u8) -> bool
     ensures { λ r. ⌜ Decides r (Owns (H·Host .rows (now (host .entry))) owner kind) ⌝ }
 {
     for q in 0..host.capacity() {
@@ -24,7 +24,7 @@ pub fn owns<H: Host>(host: &H, owner: u8, kind: u8) -> bool
 }
 
 /// Whether another row has `place` as owner.
-pub fn owns_another<H: Host>(host: &H, place: u8) -> bool
+pub(crate) fn owns_another<H: Host>(host: &H, place: u8) -> bool
     ensures { λ r. ⌜ Decides r (OwnsAnother (H·Host .rows (now (host .entry))) place) ⌝ }
 {
     for q in 0..host.capacity() {
@@ -37,7 +37,7 @@ pub fn owns_another<H: Host>(host: &H, place: u8) -> bool
 }
 
 /// Whether another row has `place` as link.
-pub fn link_of_another<H: Host>(host: &H, place: u8) -> bool
+pub(crate) fn link_of_another<H: Host>(host: &H, place: u8) -> bool
     ensures { λ r. ⌜ Decides r (LinkOfAnother (H·Host .rows (now (host .entry))) place) ⌝ }
 {
     for q in 0..host.capacity() {
@@ -60,7 +60,7 @@ fn is_linked_interface<H: Host>(host: &H, owner: u8, q: u8) -> bool
 }
 
 /// Whether an interface of the row at `place` has a link or is another's link.
-pub fn interface_linked<H: Host>(host: &H, place: u8) -> bool
+pub(crate) fn interface_linked<H: Host>(host: &H, place: u8) -> bool
     ensures { λ r. ⌜ Decides r (InterfaceLinked (H·Host .rows (now (host .entry))) place) ⌝ }
 {
     for q in 0..host.capacity() {
@@ -80,7 +80,7 @@ fn bears<H: Host>(host: &H, q: u8, owner: u8, name: u64) -> bool
 }
 
 /// Whether some place below `end` other than `place` bears `name` under `owner`.
-pub fn borne<H: Host>(host: &H, end: u8, place: u8, owner: u8, name: u64) -> bool
+pub(crate) fn borne<H: Host>(host: &H, end: u8, place: u8, owner: u8, name: u64) -> bool
     ensures { λ r. ⌜ Decides r (Borne (H·Host .rows (now (host .entry))) end place owner name) ⌝ }
 {
     for q in 0..end {
@@ -93,7 +93,7 @@ pub fn borne<H: Host>(host: &H, end: u8, place: u8, owner: u8, name: u64) -> boo
 
 /// Whether going from owner to owner, from `place` on, comes to `goal`. Where it comes there at all,
 /// it does so within one climb more than the table has rows.
-pub fn reaches<H: Host>(host: &H, place: u8, goal: u8) -> bool
+pub(crate) fn reaches<H: Host>(host: &H, place: u8, goal: u8) -> bool
     ensures { λ r. ⌜ Decides r (Reaches (H·Host .rows (now (host .entry))) place goal) ⌝ }
 {
     let mut here = place;
@@ -107,7 +107,7 @@ pub fn reaches<H: Host>(host: &H, place: u8, goal: u8) -> bool
 }
 
 /// Whether the owners of `a` and `b` differ and have one same component as owner.
-pub fn joinable<H: Host>(host: &H, a: u8, b: u8) -> bool
+pub(crate) fn joinable<H: Host>(host: &H, a: u8, b: u8) -> bool
     ensures { λ r. ⌜ Decides r (Joinable (H·Host .rows (now (host .entry))) a b) ⌝ }
 {
     let owner_a = row_at(host, a).owner;

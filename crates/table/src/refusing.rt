@@ -222,7 +222,7 @@ fn is_taken<H: Host>(host: &H, step: Step) -> bool
 }
 
 /// Why a step is refused, if it is: the first condition that holds.
-pub fn refusal_of<H: Host>(host: &H, step: Step) -> Option<Refusal>
+pub(crate) fn refusal_of<H: Host>(host: &H, step: Step) -> Option<Refusal>
     ensures { λ r. ⌜ r ≡ refusal (H·Host .rows (now (host .entry))) step ⌝ }
 {
     if is_beyond(host, step) {

@@ -70,7 +70,7 @@ fn parameter_alone<H: Host>(host: &H, place: u8) -> bool
 }
 
 /// −1,000,000 ≤ lo ≤ value ≤ hi ≤ 1,000,000
-pub fn in_range(lo: i32, hi: i32, value: i32) -> bool
+pub(crate) fn in_range(lo: i32, hi: i32, value: i32) -> bool
     ensures { λ r. ⌜ Decides r (InRange lo hi value) ⌝ }
 {
     -1_000_000 <= lo && lo <= value && value <= hi && hi <= 1_000_000
