@@ -145,7 +145,12 @@ fn put_locks<S: Scale>(one: S, two: S, three: S, cells: &mut [S])
 }
 
 /// Goes on by one position, at which the leaves have these values and this happened.
-pub(crate) fn advance<S: Scale>(f: &Formula, values: LeafValues<S>, event: Option<Event>, cells: &mut [S])
+pub(crate) fn advance<S: Scale>(
+    f: &Formula,
+    values: LeafValues<S>,
+    event: Option<Event>,
+    cells: &mut [S],
+)
     requires { ⌜ 21 ≤ length (now cells) ⌝ }
     ensures step { λ _. ⌜ viewed (S·Scale .ops) (now (cells .exit)) ≡ stepWith (S·Scale .ops) (now (f .entry)) values (λ e. holdsAt e event) (viewed (S·Scale .ops) (now (cells .entry))) ⌝ }
     ensures rest { λ _. ⌜ ((k : ℕ) → 21 ≤ k → getD (now (cells .exit)) k (S·Scale .ops .top) ≡ getD (now (cells .entry)) k (S·Scale .ops .top)) ⌝ }
