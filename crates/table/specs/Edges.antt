@@ -25,3 +25,8 @@ Set-past-hi = (t : List Row) (a : ℕ) → a < length t → kindAt t a ≡ param
 -- a stopped component without owner or parameters cannot be added to itself: a component would own itself
 abbrev pub Add-to-itself : Type 0
 Add-to-itself = (t : List Row) (a : ℕ) → a < length t → kindAt t a ≡ component → (Started t a → ⊥) → ownerAt t a ≡ none → (Owns t a parameter → ⊥) → refusal t (Add a a) ≡ Some OwnerLoop
+
+pub record Edges : Type 0 where
+  pub set-to-hi : Set-to-hi
+  pub set-past-hi : Set-past-hi
+  pub add-to-itself : Add-to-itself
