@@ -1,0 +1,4 @@
+pub mod Parting
+pub mod Layouts
+pub mod Finding
+pub mod Wrongs

@@ -1,0 +1,5 @@
+pub mod Bytes
+pub mod Layout
+pub mod Cuts
+pub mod Cutting
+pub mod Wrong

@@ -1,0 +1,23 @@
+-- Texts of a language of words, and the first wrong word of other texts.
+use mathlib.Core.Path.{_≡_}
+use mathlib.Core.Logic.{_⊎_}
+use mathlib.Core.List.{List, [], _∷_, _++_}
+use Prim.Native.Nat.{ℕ, _+_, _≤_}
+use lib.ListN.{length, take, drop}
+use Rattle.book_words.specs.declared.bytes.Class.{Class}
+use Rattle.book_words.specs.declared.bytes.Class.the-variants.{Line}
+use Rattle.book_words.specs.Layout.{Proper, Laid, Stays}
+
+module _ (L : List (List ℕ) → Type 0) where
+  -- words of the language are laid out in the bytes
+  abbrev pub TextOf : List ℕ → Type 0
+  TextOf s = (p : List (List ℕ)) × L p × Laid Line p s
+
+  -- The word w at offset `at` of s is the first that no text of the language can have there. What stands before it, less
+  -- the blank that parts it from the word before, goes on to a text; and no text goes on with this word. An empty word is
+  -- told by what ends it: a line that ends too early, a blank that is misplaced, or the end of the text.
+  pub record FirstWrong (s : List ℕ) (at : ℕ) (w : List ℕ) : Type 0 where
+    pub inside : at + length w ≤ length s
+    pub word : take (length w) (drop at s) ≡ w
+    pub before : (front after : List ℕ) × ((take at s ≡ front) ⊎ (take at s ≡ front ++ (32 ∷ []))) × TextOf (front ++ after)
+    pub never : (after : List ℕ) → (w ≡ [] → take 1 after ≡ take 1 (drop (at + length w) s)) → ((d : Class) → Proper d w → Stays d after) → TextOf (take at s ++ (w ++ after)) → ⊥
