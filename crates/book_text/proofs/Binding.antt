@@ -21,12 +21,14 @@ use Rattle.book_text.specs.declared.parts.Stop.the-variants.{Wrong, Memory}
 use Rattle.book_text.specs.declared.rules.Rule.{Rule}
 use Rattle.book_text.specs.declared.scopes.Scope.{Scope}
 use Rattle.book_text.specs.Rules.{Text, Reads, loose, form, leaves, scopeOf, innerKind, innerText, binderText, RuleSays}
-use Rattle.book_text.specs.States.{State, dead, ended, opening, naming, parting, kinding, scoped, turning, done, nameOfNext, extended, another, after, step, run, mid, Stuck}
+use Rattle.book_words.specs.Cuts.{part}
+use Rattle.book_text.specs.States.{State, dead, ended, opening, naming, parting, kinding, scoped, turning, done, nameOfNext, extended, another, after, step, run, Stuck}
 use Rattle.book_text.specs.Took.{Bound, Took, Failed, TestsTaken, RuleTaken}
 use Rattle.book_text.specs.Words.{kinds, kindText, kindOf, quantifiers, quantifierText, quantifierOf, openingText, openingOf}
 use Rattle.book_text.proofs.Lexical.{spelt-says}
 use Rattle.book_text.proofs.Complete.{run-append, start}
-use Rattle.book_text.proofs.Steps.{mid-join, mid-first, mid-none, mid-one, stands, begun, stuck-here, stuck-step, stuck-after, failed-after, failed-step, took-run, stops-outside}
+use Rattle.book_words.proofs.Parting.{part-join, part-none}
+use Rattle.book_text.proofs.Steps.{mid-first, mid-one, stands, begun, stuck-here, stuck-step, stuck-after, failed-after, failed-step, took-run, stops-outside}
 
 name-some : (o : Option VariableKind) → nameOfNext o ≡ [] → ⊥
 name-some None e = let z : _≡_ {A = ℕ} 0 1 = cc in omega arith
@@ -79,7 +81,7 @@ module _ (o : Option VariableKind) (s : List Text) (a : ℕ) where
           let l : a + 2 + 1 ≡ a + 3 = omega arith in
           record {
             inside = omega arith;
-            words = mid-first s a (a + 3) (omega arith) (omega arith) ∙ (λ i. n i ∷ (mid-first s (a + 1) (a + 3) (omega arith) (omega arith) ∙ (λ j. p j ∷ (ap (λ z. mid s z (a + 3)) m ∙ mid-first s (a + 2) (a + 3) (omega arith) (omega arith) ∙ (λ k. t k ∷ (ap (λ z. mid s z (a + 3)) l ∙ mid-none s (a + 3)) k)) j)) i);
+            words = mid-first s a (a + 3) (omega arith) (omega arith) ∙ (λ i. n i ∷ (mid-first s (a + 1) (a + 3) (omega arith) (omega arith) ∙ (λ j. p j ∷ (ap (λ z. part s z (a + 3)) m ∙ mid-first s (a + 2) (a + 3) (omega arith) (omega arith) ∙ (λ k. t k ∷ (ap (λ z. part s z (a + 3)) l ∙ part-none s (a + 3)) k)) j)) i);
           }
 
 -- the words of a variable lead on
@@ -94,7 +96,7 @@ run-kind (Some j) Provided = refl
 run-kind (Some j) Required = refl
 run-kind (Some j) Parameter = refl
 
-pub bound-run : {o : Option VariableKind} {s : List Text} {a : ℕ} {k : VariableKind} → Bound o s a k → run (naming o) (mid s a (a + 3)) ≡ scoped (extended o k)
+pub bound-run : {o : Option VariableKind} {s : List Text} {a : ℕ} {k : VariableKind} → Bound o s a k → run (naming o) (part s a (a + 3)) ≡ scoped (extended o k)
 bound-run {o} {k = k} b = ap (run (naming o)) (b .words) ∙ run-kind o k
 
 ignored : (o : Option Quantifier) → after o (λ q. dead) ≡ dead
@@ -136,10 +138,10 @@ module _ (b : Binder) (c : Option Binder) (s : List Text) (a : ℕ) where
           inner = refl;
           ahead = omega (arith, w .ahead);
           inside = omega (arith, e′);
-          tests = mid s (a + 1) (x .next);
+          tests = part s (a + 1) (x .next);
           reads = w .reads;
           few = omega (arith, w .counted, w .few);
-          words = mid-first s a (x .next + 1) (omega (arith, w .ahead)) (omega (arith, e′)) ∙ (λ i. p i ∷ (mid-join s (a + 1) (x .next) (x .next + 1) (omega (arith, w .ahead)) (omega arith) ∙ ap (λ z. mid s (a + 1) (x .next) ++ z) (mid-one s (x .next) e′ ∙ ap (λ z. z ∷ []) e)) i);
+          words = mid-first s a (x .next + 1) (omega (arith, w .ahead)) (omega (arith, e′)) ∙ (λ i. p i ∷ (part-join s (a + 1) (x .next) (x .next + 1) (omega (arith, w .ahead)) (omega arith) ∙ ap (λ z. part s (a + 1) (x .next) ++ z) (mid-one s (x .next) e′ ∙ ap (λ z. z ∷ []) e)) i);
         }
 
 opening-some : (q : Quantifier) → openingText q ≡ [] → ⊥
@@ -174,15 +176,15 @@ module _ (s : List Text) (a : ℕ) where
     first-failed z x = stuck-step s a z opening-inside opened x
 
     module _ (k : VariableKind) (w : Bound None s (a + 1) k) where
-      first-run : run opening (mid s a (a + 4)) ≡ scoped (record { outer = k; inner = None })
+      first-run : run opening (part s a (a + 4)) ≡ scoped (record { outer = k; inner = None })
       first-run =
           let m : a + 1 + 3 ≡ a + 4 = omega arith in
           ap (run opening) (mid-first s a (a + 4) (omega arith) (omega (arith, w .inside)))
-          ∙ (λ i. run (opened i) (mid s (a + 1) (sym m i)))
+          ∙ (λ i. run (opened i) (part s (a + 1) (sym m i)))
           ∙ bound-run w
 
-      first-words : mid s a (a + 4) ≡ binderText (record { quantifier = q; kind = k }) None
-      first-words = let m : a + 1 + 3 ≡ a + 4 = omega arith in mid-first s a (a + 4) (omega arith) (omega (arith, w .inside)) ∙ (λ i. text i ∷ (ap (mid s (a + 1)) (sym m) ∙ w .words) i)
+      first-words : part s a (a + 4) ≡ binderText (record { quantifier = q; kind = k }) None
+      first-words = let m : a + 1 + 3 ≡ a + 4 = omega arith in mid-first s a (a + 4) (omega arith) (omega (arith, w .inside)) ∙ (λ i. text i ∷ (ap (part s (a + 1)) (sym m) ∙ w .words) i)
 
       pub one-failed : (r : Stop) → Failed (scoped (record { outer = k; inner = None })) s (a + 4) r → Failed opening s a r
       one-failed r f = failed-after opening (scoped (record { outer = k; inner = None })) s a (a + 4) r (omega arith) first-run f
@@ -204,35 +206,35 @@ module _ (s : List Text) (a : ℕ) where
             stuck-after s a (a + 4) z (omega arith) first-run (stuck-step s (a + 4) z second-inside again (subst (λ y. Stuck (naming (Some k)) s y z) (sym m) x))
 
         module _ (j : VariableKind) (w₂ : Bound (Some k) s (a + 5) j) where
-          second-run : run opening (mid s a (a + 8)) ≡ scoped (record { outer = k; inner = Some j })
+          second-run : run opening (part s a (a + 8)) ≡ scoped (record { outer = k; inner = Some j })
           second-run =
               let m : a + 5 + 3 ≡ a + 8 = omega arith in
               let n : a + 4 + 1 ≡ a + 5 = omega arith in
-              ap (run opening) (mid-join s a (a + 4) (a + 8) (omega arith) (omega arith))
-              ∙ run-append opening (mid s a (a + 4)) (mid s (a + 4) (a + 8))
+              ap (run opening) (part-join s a (a + 4) (a + 8) (omega arith) (omega arith))
+              ∙ run-append opening (part s a (a + 4)) (part s (a + 4) (a + 8))
               ∙ (λ i. run (first-run i) (mid-first s (a + 4) (a + 8) (omega arith) (omega (arith, w₂ .inside)) i))
-              ∙ (λ i. run (again i) (mid s (n i) (sym m i)))
+              ∙ (λ i. run (again i) (part s (n i) (sym m i)))
               ∙ bound-run w₂
 
-          second-words : mid s a (a + 8) ≡ binderText (record { quantifier = q; kind = k }) (Some (record { quantifier = p; kind = j }))
+          second-words : part s a (a + 8) ≡ binderText (record { quantifier = q; kind = k }) (Some (record { quantifier = p; kind = j }))
           second-words =
               let m : a + 5 + 3 ≡ a + 8 = omega arith in
               let n : a + 4 + 1 ≡ a + 5 = omega arith in
-              mid-join s a (a + 4) (a + 8) (omega arith) (omega arith)
-              ∙ (λ i. first-words i ++ (mid-first s (a + 4) (a + 8) (omega arith) (omega (arith, w₂ .inside)) ∙ (λ l. text₂ l ∷ ((λ o. mid s (n o) (sym m o)) ∙ w₂ .words) l)) i)
+              part-join s a (a + 4) (a + 8) (omega arith) (omega arith)
+              ∙ (λ i. first-words i ++ (mid-first s (a + 4) (a + 8) (omega arith) (omega (arith, w₂ .inside)) ∙ (λ l. text₂ l ∷ ((λ o. part s (n o) (sym m o)) ∙ w₂ .words) l)) i)
 
           pub two-failed : (r : Stop) → Failed (scoped (record { outer = k; inner = Some j })) s (a + 8) r → Failed opening s a r
           two-failed r f = failed-after opening (scoped (record { outer = k; inner = Some j })) s a (a + 8) r (omega arith) second-run f
 
-taken : (b : Binder) (c : Option Binder) (s : List Text) (a m : ℕ) (x : Rule) → a ≤ m → mid s a m ≡ binderText b c → TestsTaken b c s m x → RuleTaken s a x
+taken : (b : Binder) (c : Option Binder) (s : List Text) (a m : ℕ) (x : Rule) → a ≤ m → part s a m ≡ binderText b c → TestsTaken b c s m x → RuleTaken s a x
 taken b c s a m x h w t =
     let f = form (x .property .tests) in
-    let p = mid s a (x .next) in
+    let p = part s a (x .next) in
     let says : RuleSays b c f p = record {
       tests = t .tests;
       reads = t .reads;
       few = t .few;
-      words = mid-join s a m (x .next) h (omega (arith, t .ahead)) ∙ (λ i. w i ++ t .words i);
+      words = part-join s a m (x .next) h (omega (arith, t .ahead)) ∙ (λ i. w i ++ t .words i);
     } in
     record {
       ahead = omega (arith, t .ahead);

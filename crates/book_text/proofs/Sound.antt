@@ -337,20 +337,20 @@ record Bound-tests (k : VariableKind) (u : List Text) : Type 0 where
   rest : Rest (record { outer = k; inner = innerKind inner }) tests
   words : u ≡ innerText inner ++ (codes ":" ∷ tests)
 
-from-two : (k j : VariableKind) (q : Quantifier) (u : List Text) → run (scoped (record { outer = k; inner = Some j })) u ≡ ended → (v : List Text) × Rest (record { outer = k; inner = Some j }) v × (u ≡ codes ":" ∷ v)
+from-two : (k j : VariableKind) (u : List Text) → run (scoped (record { outer = k; inner = Some j })) u ≡ ended → (v : List Text) × Rest (record { outer = k; inner = Some j }) v × (u ≡ codes ":" ∷ v)
 unfolding step
-from-two k j q [] e = let z : _≡_ {A = ℕ} 0 1 = cc in absurd (omega arith)
-from-two k j q (t ∷ u) e =
+from-two k j [] e = let z : _≡_ {A = ℕ} 0 1 = cc in absurd (omega arith)
+from-two k j (t ∷ u) e =
     branch (sameBytes t (codes ":")) _ _ u e
     (λ c e₁. (u, tests-of _ u e₁, ap (λ z. z ∷ u) (same-true t (codes ":") c)))
     (λ c e₁. let w = stood (quantifierOf t) _ u e₁ in absurd (dead-run u (w .2)))
 
-from-kind-two : (k : VariableKind) (q : Quantifier) (u : List Text) → run (kinding (Some k)) u ≡ ended → (j : VariableKind) × (v : List Text) × Rest (record { outer = k; inner = Some j }) v × (u ≡ kindText j ∷ codes ":" ∷ v)
+from-kind-two : (k : VariableKind) (u : List Text) → run (kinding (Some k)) u ≡ ended → (j : VariableKind) × (v : List Text) × Rest (record { outer = k; inner = Some j }) v × (u ≡ kindText j ∷ codes ":" ∷ v)
 unfolding step
-from-kind-two k q [] e = let z : _≡_ {A = ℕ} 0 1 = cc in absurd (omega arith)
-from-kind-two k q (t ∷ u) e =
+from-kind-two k [] e = let z : _≡_ {A = ℕ} 0 1 = cc in absurd (omega arith)
+from-kind-two k (t ∷ u) e =
     let w = stood (kindOf t) _ u e in
-    let r = from-two k (w .0) q u (w .2) in
+    let r = from-two k (w .0) u (w .2) in
     (w .0, r .0, r .1, λ i. spelt-says kindText kinds t (w .0) (w .1) i ∷ r .2 i)
 
 from-part : (o : Option VariableKind) (u : List Text) → run (parting o) u ≡ ended → (v : List Text) × (run (kinding o) v ≡ ended) × (u ≡ codes ":" ∷ v)
@@ -374,7 +374,7 @@ from-one k (t ∷ u) e =
     (λ c e₁. record { inner = None; tests = u; rest = tests-of _ u e₁; words = ap (λ z. z ∷ u) (same-true t (codes ":") c) })
     (λ c e₁. let w = stood (quantifierOf t) _ u e₁ in
     let n = from-naming (Some k) u (w .2) in
-    let r = from-kind-two k (w .0) (n .0) (n .1) in
+    let r = from-kind-two k (n .0) (n .1) in
     record { inner = Some (record { quantifier = w .0; kind = r .0 }); tests = r .1; rest = r .2; words = λ i. spelt-says quantifierText quantifiers t (w .0) (w .1) i ∷ (n .2 ∙ ap (λ z. codes "w" ∷ codes ":" ∷ z) (r .3)) i })
 
 from-kind-one : (u : List Text) → run (kinding None) u ≡ ended → (k : VariableKind) × (v : List Text) × Bound-tests k v × (u ≡ kindText k ∷ v)

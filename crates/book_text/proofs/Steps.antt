@@ -3,17 +3,16 @@ use mathlib.Core.Path.{_≡_, refl, sym, ap, subst, _∙_}
 use mathlib.Core.Bool.{Bool, true, false, cond, _&&_, true≢false}
 use mathlib.Core.Logic.{_⊎_, inl, inr, ⊎-elim}
 use mathlib.Core.List.{List, [], _∷_, _++_, append-nil}
-use Prim.Native.Nat.{ℕ, suc, _+_, _-_, _≤_, _<_}
-use native.Mathlib.Numerals.{add-one}
+use Prim.Native.Nat.{ℕ, _+_, _-_, _≤_, _<_}
 use native.Mathlib.Omega.{arith}
 use lib.Chars.{codes}
 use lib.Dec.{ltb, eqb}
 use denote.Ref.{now}
-use lib.ListN.{length, getD, take, drop, take-append-drop, length-map}
+use lib.ListN.{length, getD, length-map}
 use Rattle.std.specs.declared.option.Option.{Option}
 use Rattle.std.specs.declared.option.Option.the-variants.{None, Some}
 use Rattle.std.specs.shelf.Text.{sameBytes}
-use Rattle.std.proofs.shelf.Lists.{take-take, drop-take, drop-drop, drop-more, getD-past}
+use Rattle.std.proofs.shelf.Lists.{getD-past}
 use Rattle.std.proofs.shelf.Tests.{cases-lt, cond-true, cond-false, and-parts, ltb-true, le-ltb, lt-ltb, ne-eqb}
 use Rattle.ftpl.specs.declared.properties.Test.{Test}
 use Rattle.ftpl.specs.declared.properties.Tests.{Tests}
@@ -22,36 +21,23 @@ use Rattle.book_text.specs.declared.parts.Stop.{Stop}
 use Rattle.book_text.specs.declared.parts.Stop.the-variants.{Wrong, Memory}
 use Rattle.book_text.specs.declared.scopes.Scope.{Scope}
 use Rattle.book_words.specs.declared.tokens.Token.{Token}
-use Rattle.book_words.specs.Cuts.{wordsOf}
+use Rattle.book_words.specs.Cuts.{part, wordsOf}
 use Rattle.book_text.specs.Rules.{Text, TestSays, Form, leaf, turned, joined, either, leaves, form, Level, loose, tight, single, plain, Reads, a-test, a-group, a-plain, a-not, one-tight, and-tight, one-loose, or-loose}
-use Rattle.book_text.specs.States.{State, dead, ended, turning, grouping, testing, done, step, run, mid, Stuck, Running, groupStep, testStep, joinStep}
+use Rattle.book_text.specs.States.{State, dead, ended, turning, grouping, testing, done, step, run, Stuck, Running, groupStep, testStep, joinStep}
 use Rattle.book_text.specs.Took.{Took, Failed, Shut, Unjoined}
+use Rattle.book_words.proofs.Parting.{part-join, part-first, part-none, part-one}
 use Rattle.book_text.proofs.Lexical.{same-true}
 use Rattle.book_text.proofs.Complete.{not-run, join-and, join-or, open-run, close-run, run-append, start, complete, leaves-some}
 
-pub mid-join : (s : List Text) (a b e : ℕ) → a ≤ b → b ≤ e → mid s a e ≡ mid s a b ++ mid s b e
-mid-join s a b e h k =
-    let n : e - a ≡ (b - a) + (e - b) = omega arith in
-    let m : a + (b - a) ≡ b = omega arith in
-    let l : b - a ≤ (b - a) + (e - b) = omega arith in
-    ap (λ i. take i (drop a s)) n
-    ∙ sym (take-append-drop (b - a) (take ((b - a) + (e - b)) (drop a s)))
-    ∙ (λ i. take-take (b - a) ((b - a) + (e - b)) (drop a s) l i ++ (drop-take (b - a) (e - b) (drop a s) ∙ ap (take (e - b)) (drop-drop (b - a) a s ∙ ap (λ i. drop i s) m)) i)
+pub mid-first : (s : List Text) (b e : ℕ) → b < e → e ≤ length s → part s b e ≡ getD s b [] ∷ part s (b + 1) e
+mid-first s b e h k = part-first [] s b e h k
 
-pub mid-first : (s : List Text) (b e : ℕ) → b < e → e ≤ length s → mid s b e ≡ getD s b [] ∷ mid s (b + 1) e
-mid-first s b e h k =
-    let n : e - b ≡ (e - (b + 1)) + 1 = omega arith in
-    ap (λ i. take i (drop b s)) (n ∙ add-one (e - (b + 1))) ∙ ap (take (suc (e - (b + 1)))) (drop-more s b [] (omega arith))
-
-pub mid-none : (s : List Text) (a : ℕ) → mid s a a ≡ []
-mid-none s a = let n : a - a ≡ 0 = omega arith in ap (λ i. take i (drop a s)) n
-
-pub mid-one : (s : List Text) (a : ℕ) → a < length s → mid s a (a + 1) ≡ getD s a [] ∷ []
-mid-one s a h = mid-first s a (a + 1) (omega arith) (omega arith) ∙ ap (λ z. getD s a [] ∷ z) (mid-none s (a + 1))
+pub mid-one : (s : List Text) (a : ℕ) → a < length s → part s a (a + 1) ≡ getD s a [] ∷ []
+mid-one s a h = part-one [] s a h
 
 -- a sign at b between two parts
-mid-sign : (s : List Text) (a b e : ℕ) (x : Text) → a ≤ b → b < e → e ≤ length s → getD s b [] ≡ x → mid s a e ≡ mid s a b ++ (x ∷ mid s (b + 1) e)
-mid-sign s a b e x h k l q = mid-join s a b e h (omega arith) ∙ ap (λ r. mid s a b ++ r) (mid-first s b e k l ∙ ap (λ y. y ∷ mid s (b + 1) e) q)
+mid-sign : (s : List Text) (a b e : ℕ) (x : Text) → a ≤ b → b < e → e ≤ length s → getD s b [] ≡ x → part s a e ≡ part s a b ++ (x ∷ part s (b + 1) e)
+mid-sign s a b e x h k l q = part-join s a b e h (omega arith) ∙ ap (λ r. part s a b ++ r) (mid-first s b e k l ∙ ap (λ y. y ∷ part s (b + 1) e) q)
 
 -- where a word that is not empty stands, the text goes on
 pub stands : (s : List Text) (a : ℕ) (t : Text) → (t ≡ [] → ⊥) → getD s a [] ≡ t → a < length s
@@ -62,13 +48,13 @@ stuck-here {st} s a n h e =
     record {
       ahead = omega arith;
       inside = h;
-      alive = subst Running (sym (ap (run st) (mid-none s a))) n;
-      wrong = ap (λ z. step (run st z) (getD s a [])) (mid-none s a) ∙ e;
+      alive = subst Running (sym (ap (run st) (part-none s a))) n;
+      wrong = ap (λ z. step (run st z) (getD s a [])) (part-none s a) ∙ e;
     }
 
-pub stuck-after : {st st₁ : State} (s : List Text) (a b e : ℕ) → a ≤ b → run st (mid s a b) ≡ st₁ → Stuck st₁ s b e → Stuck st s a e
+pub stuck-after : {st st₁ : State} (s : List Text) (a b e : ℕ) → a ≤ b → run st (part s a b) ≡ st₁ → Stuck st₁ s b e → Stuck st s a e
 stuck-after {st} {st₁} s a b e h q x =
-    let j = ap (run st) (mid-join s a b e h (x .ahead)) ∙ run-append st (mid s a b) (mid s b e) ∙ ap (λ z. run z (mid s b e)) q in
+    let j = ap (run st) (part-join s a b e h (x .ahead)) ∙ run-append st (part s a b) (part s b e) ∙ ap (λ z. run z (part s b e)) q in
     record {
       ahead = omega (arith, x .ahead);
       inside = x .inside;
@@ -84,19 +70,19 @@ pub stuck-as : {st st₁ : State} (s : List Text) (a e : ℕ) → Running st →
 stuck-as {st} {st₁} s a e n q x = ⊎-elim onward here (cases-lt a e)
   where
     here : e ≤ a → Stuck st s a e
-    here h = let m : e ≡ a = omega (arith, x .ahead) in subst (λ z. Stuck st s a z) (sym m) (stuck-here s a n (subst (λ z. z ≤ length s) m (x .inside)) (q ∙ sym (ap (λ z. step (run st₁ z) (getD s a [])) (mid-none s a)) ∙ subst (λ z. step (run st₁ (mid s a z)) (getD s z []) ≡ dead) m (x .wrong)))
+    here h = let m : e ≡ a = omega (arith, x .ahead) in subst (λ z. Stuck st s a z) (sym m) (stuck-here s a n (subst (λ z. z ≤ length s) m (x .inside)) (q ∙ sym (ap (λ z. step (run st₁ z) (getD s a [])) (part-none s a)) ∙ subst (λ z. step (run st₁ (part s a z)) (getD s z []) ≡ dead) m (x .wrong)))
 
     onward : a < e → Stuck st s a e
     onward h =
         let m = mid-first s a e h (x .inside) in
-        let j = ap (run st) m ∙ ap (λ z. run z (mid s (a + 1) e)) q ∙ sym (ap (run st₁) m) in
+        let j = ap (run st) m ∙ ap (λ z. run z (part s (a + 1) e)) q ∙ sym (ap (run st₁) m) in
         record { ahead = x .ahead; inside = x .inside; alive = subst Running (sym j) (x .alive); wrong = ap (λ z. step z (getD s e [])) j ∙ x .wrong }
 
 pub failed-as : (st st₁ : State) (s : List Text) (a : ℕ) (r : Stop) → Running st → step st (getD s a []) ≡ step st₁ (getD s a []) → Failed st₁ s a r → Failed st s a r
 failed-as st st₁ s a (Wrong e) n q x = stuck-as s a e n q x
 failed-as st st₁ s a Memory n q x = tt
 
-pub failed-after : (st st₁ : State) (s : List Text) (a b : ℕ) (r : Stop) → a ≤ b → run st (mid s a b) ≡ st₁ → Failed st₁ s b r → Failed st s a r
+pub failed-after : (st st₁ : State) (s : List Text) (a b : ℕ) (r : Stop) → a ≤ b → run st (part s a b) ≡ st₁ → Failed st₁ s b r → Failed st s a r
 failed-after st st₁ s a b (Wrong e) h q x = stuck-after s a b e h q x
 failed-after st st₁ s a b Memory h q x = tt
 
@@ -105,9 +91,9 @@ failed-step st st₁ s a (Wrong e) h q x = stuck-step s a e h q x
 failed-step st st₁ s a Memory h q x = tt
 
 -- what a part took leads from its first state to its last
-pub took-run : {l : Level} {sc : Scope} {n k a : ℕ} {s : List Text} {x : Part} → Took l sc n k s a x → n ≤ 8 → run (start l sc (8 - n) k) (mid s a (x .next)) ≡ done sc (8 - n) (x .count)
+pub took-run : {l : Level} {sc : Scope} {n k a : ℕ} {s : List Text} {x : Part} → Took l sc n k s a x → n ≤ 8 → run (start l sc (8 - n) k) (part s a (x .next)) ≡ done sc (8 - n) (x .count)
 took-run {l} {sc} {n} {k} {a} {s} {x} t h =
-    let p = mid s a (x .next) in
+    let p = part s a (x .next) in
     ap (run (start l sc (8 - n) k)) (sym (append-nil p))
     ∙ complete (t .reads) (8 - n) k (omega arith) (omega (arith, t .counted, t .few)) []
     ∙ ap (done sc (8 - n)) (sym (t .counted))
@@ -125,10 +111,10 @@ joined-by s e k b t h =
     record { room = ltb-true k 16 (p .0); sign = q; inside = stands s e (b ∷ t) (λ z. let y : _≡_ {A = ℕ} 0 1 = cc in omega arith) q }
 
 -- how tests joined by a sign lead on to the next
-run-on : (l : Level) {sc : Scope} {n k a : ℕ} {s : List Text} {x : Part} (t : Text) → Took l sc n k s a x → n ≤ 8 → Joined s (x .next) (x .count) t → step (done sc (8 - n) (x .count)) t ≡ turning sc (8 - n) (x .count) → run (start l sc (8 - n) k) (mid s a (x .next + 1)) ≡ turning sc (8 - n) (x .count)
+run-on : (l : Level) {sc : Scope} {n k a : ℕ} {s : List Text} {x : Part} (t : Text) → Took l sc n k s a x → n ≤ 8 → Joined s (x .next) (x .count) t → step (done sc (8 - n) (x .count)) t ≡ turning sc (8 - n) (x .count) → run (start l sc (8 - n) k) (part s a (x .next + 1)) ≡ turning sc (8 - n) (x .count)
 run-on l {sc} {n} {k} {a} {s} {x} t w h j e =
-    ap (run (start l sc (8 - n) k)) (mid-join s a (x .next) (x .next + 1) (omega (arith, w .ahead)) (omega arith))
-    ∙ run-append (start l sc (8 - n) k) (mid s a (x .next)) (mid s (x .next) (x .next + 1))
+    ap (run (start l sc (8 - n) k)) (part-join s a (x .next) (x .next + 1) (omega (arith, w .ahead)) (omega arith))
+    ∙ run-append (start l sc (8 - n) k) (part s a (x .next)) (part s (x .next) (x .next + 1))
     ∙ (λ i. run (took-run w h i) (mid-one s (x .next) (j .inside) i))
     ∙ ap (step (done sc (8 - n) (x .count))) (j .sign)
     ∙ e
@@ -145,7 +131,7 @@ module _ {sc : Scope} {n k a : ℕ} (s : List Text) (x : Part) where
       record {
         ahead = omega (arith, w .ahead, v .ahead);
         inside = v .inside;
-        reads = subst (λ f. Reads sc loose n (mid s a (y .next)) f) (sym e) (subst (λ z. Reads sc loose n z (either (form (x .tests)) (form (y .tests)))) (sym (mid-sign s a (x .next) (y .next) (codes "|") (omega (arith, w .ahead)) (omega (arith, v .ahead)) (v .inside) (j .sign))) (or-loose (w .reads) (v .reads)));
+        reads = subst (λ f. Reads sc loose n (part s a (y .next)) f) (sym e) (subst (λ z. Reads sc loose n z (either (form (x .tests)) (form (y .tests)))) (sym (mid-sign s a (x .next) (y .next) (codes "|") (omega (arith, w .ahead)) (omega (arith, v .ahead)) (v .inside) (j .sign))) (or-loose (w .reads) (v .reads)));
         counted = omega (arith, w .counted, v .counted, ap leaves e);
         more = omega (arith, w .more, v .more);
         few = v .few;
@@ -157,7 +143,7 @@ module _ {sc : Scope} {n k a : ℕ} (s : List Text) (x : Part) where
       record {
         ahead = omega (arith, w .ahead, v .ahead);
         inside = v .inside;
-        reads = subst (λ f. Reads sc tight n (mid s a (y .next)) f) (sym e) (subst (λ z. Reads sc tight n z (joined (form (x .tests)) (form (y .tests)))) (sym (mid-sign s a (x .next) (y .next) (codes "&") (omega (arith, w .ahead)) (omega (arith, v .ahead)) (v .inside) (j .sign))) (and-tight (w .reads) (v .reads)));
+        reads = subst (λ f. Reads sc tight n (part s a (y .next)) f) (sym e) (subst (λ z. Reads sc tight n z (joined (form (x .tests)) (form (y .tests)))) (sym (mid-sign s a (x .next) (y .next) (codes "&") (omega (arith, w .ahead)) (omega (arith, v .ahead)) (v .inside) (j .sign))) (and-tight (w .reads) (v .reads)));
         counted = omega (arith, w .counted, v .counted, ap leaves e);
         more = omega (arith, w .more, v .more);
         few = v .few;
@@ -178,7 +164,7 @@ module _ {sc : Scope} {n k a : ℕ} (s : List Text) (x : Part) where
       record {
         ahead = omega (arith, w .ahead);
         inside = w .inside;
-        reads = subst (λ f. Reads sc single n (mid s a (x .next)) f) (sym e) (subst (λ z. Reads sc single n z (turned (form (x .tests)))) (sym (mid-first s a (x .next) (omega (arith, w .ahead)) (w .inside) ∙ ap (λ z. z ∷ mid s (a + 1) (x .next)) q)) (a-not (w .reads)));
+        reads = subst (λ f. Reads sc single n (part s a (x .next)) f) (sym e) (subst (λ z. Reads sc single n z (turned (form (x .tests)))) (sym (mid-first s a (x .next) (omega (arith, w .ahead)) (w .inside) ∙ ap (λ z. z ∷ part s (a + 1) (x .next)) q)) (a-not (w .reads)));
         counted = w .counted ∙ ap (λ f. k + leaves f) (sym e);
         more = w .more;
         few = w .few;
@@ -190,11 +176,11 @@ module _ {sc : Scope} {n k a : ℕ} (s : List Text) (x : Part) where
       let b = x .next in
       let inside : b < length s = stands s b (codes ")") (λ z. let y : _≡_ {A = ℕ} 0 1 = cc in omega arith) z in
       let m : n - 1 + 1 ≡ n = omega arith in
-      let e = mid-first s a (b + 1) (omega (arith, w .ahead)) (omega arith) ∙ (λ i. q i ∷ (mid-sign s (a + 1) b (b + 1) (codes ")") (omega (arith, w .ahead)) (omega arith) (omega arith) z ∙ ap (λ y. mid s (a + 1) b ++ (codes ")" ∷ y)) (mid-none s (b + 1))) i) in
+      let e = mid-first s a (b + 1) (omega (arith, w .ahead)) (omega arith) ∙ (λ i. q i ∷ (mid-sign s (a + 1) b (b + 1) (codes ")") (omega (arith, w .ahead)) (omega arith) (omega arith) z ∙ ap (λ y. part s (a + 1) b ++ (codes ")" ∷ y)) (part-none s (b + 1))) i) in
       record {
         ahead = omega (arith, w .ahead);
         inside = omega arith;
-        reads = subst (λ y. Reads sc plain n y (form (x .tests))) (sym e) (subst (λ i. Reads sc plain i (codes "(" ∷ (mid s (a + 1) b ++ (codes ")" ∷ []))) (form (x .tests))) m (a-group (w .reads)));
+        reads = subst (λ y. Reads sc plain n y (form (x .tests))) (sym e) (subst (λ i. Reads sc plain i (codes "(" ∷ (part s (a + 1) b ++ (codes ")" ∷ []))) (form (x .tests))) m (a-group (w .reads)));
         counted = w .counted;
         more = w .more;
         few = w .few;

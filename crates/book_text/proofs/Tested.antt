@@ -23,12 +23,14 @@ use Rattle.book_text.specs.declared.scopes.Scope.{Scope}
 use Rattle.book_text.specs.declared.words.Keyword.{Keyword}
 use Rattle.book_text.specs.declared.words.Keyword.the-variants.{Name, In, Bound, Child, Same, Up, AtMost}
 use Rattle.book_text.specs.Rules.{Text, Over, Within, TestSays, plain, a-test}
-use Rattle.book_text.specs.States.{State, dead, testing, first, second, done, after, step, run, mid, Stuck, kindIn, isKind, variableOf, variableFits, firstFits, secondFits, viable, operated}
+use Rattle.book_words.specs.Cuts.{part}
+use Rattle.book_text.specs.States.{State, dead, testing, first, second, done, after, step, run, Stuck, kindIn, isKind, variableOf, variableFits, firstFits, secondFits, viable, operated}
 use Rattle.book_text.specs.Took.{Took}
 use Rattle.book_text.specs.Words.{keywords, keywordText, keywordOf, variableText}
 use Rattle.book_text.proofs.Lexical.{spelt-says, reads-bound}
 use Rattle.book_text.proofs.Sound.{over-kind}
-use Rattle.book_text.proofs.Steps.{mid-first, mid-none, stands, stuck-here, stuck-step}
+use Rattle.book_words.proofs.Parting.{part-join, part-none}
+use Rattle.book_text.proofs.Steps.{mid-first, stands, stuck-here, stuck-step}
 
 keyword-some : (w : Keyword) → keywordText w ≡ [] → ⊥
 keyword-some Name e = let z : _≡_ {A = ℕ} 0 1 = cc in omega arith
@@ -104,7 +106,7 @@ module _ (sc : Scope) (d k : ℕ) (s : List Text) (a : ℕ) where
       pub took-up : (n : ℕ) → w ≡ Up → k < 16 → Took plain sc n k s a (record { tests = Single (tests.Up x); next = a + 2; count = k + 1 })
       took-up n u h =
           let m : a + 1 + 1 ≡ a + 2 = omega arith in
-          let p = mid-first s a (a + 2) (omega arith) (omega (arith, two)) ∙ (λ i. (keyword-is ∙ ap keywordText u) i ∷ (mid-first s (a + 1) (a + 2) (omega arith) (omega (arith, two)) ∙ (λ j. variable-is .0 j ∷ (ap (λ z. mid s z (a + 2)) m ∙ mid-none s (a + 2)) j)) i) in
+          let p = mid-first s a (a + 2) (omega arith) (omega (arith, two)) ∙ (λ i. (keyword-is ∙ ap keywordText u) i ∷ (mid-first s (a + 1) (a + 2) (omega arith) (omega (arith, two)) ∙ (λ j. variable-is .0 j ∷ (ap (λ z. part s z (a + 2)) m ∙ part-none s (a + 2)) j)) i) in
           record {
             ahead = omega arith;
             inside = omega (arith, two);
@@ -121,7 +123,7 @@ module _ (sc : Scope) (d k : ℕ) (s : List Text) (a : ℕ) where
           let m : a + 1 + 1 ≡ a + 2 = omega arith in
           let l : a + 2 + 1 ≡ a + 3 = omega arith in
           let three : a + 2 < length s = stands s (a + 2) (getD s (a + 2) []) (last-some sc t (keywordText w) (variableText x) (getD s (a + 2) []) h) refl in
-          let p = mid-first s a (a + 3) (omega arith) (omega arith) ∙ (λ i. keyword-is i ∷ (mid-first s (a + 1) (a + 3) (omega arith) (omega arith) ∙ (λ j. variable-is .0 j ∷ (ap (λ z. mid s z (a + 3)) m ∙ mid-first s (a + 2) (a + 3) (omega arith) (omega arith) ∙ ap (λ z. getD s (a + 2) [] ∷ z) (ap (λ z. mid s z (a + 3)) l ∙ mid-none s (a + 3))) j)) i) in
+          let p = mid-first s a (a + 3) (omega arith) (omega arith) ∙ (λ i. keyword-is i ∷ (mid-first s (a + 1) (a + 3) (omega arith) (omega arith) ∙ (λ j. variable-is .0 j ∷ (ap (λ z. part s z (a + 3)) m ∙ mid-first s (a + 2) (a + 3) (omega arith) (omega arith) ∙ ap (λ z. getD s (a + 2) [] ∷ z) (ap (λ z. part s z (a + 3)) l ∙ part-none s (a + 3))) j)) i) in
           record {
             ahead = omega arith;
             inside = omega arith;

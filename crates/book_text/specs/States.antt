@@ -7,7 +7,7 @@ use Prim.Native.Nat.{ℕ, zero, suc, _+_, _-_, _≤_, _<_}
 use lib.Chars.{codes}
 use lib.Dec.{leb, ltb, eqb}
 use lib.IntN.{ℤ, pos, negsuc}
-use lib.ListN.{length, getD, take, drop}
+use lib.ListN.{length, getD}
 use Rattle.std.specs.Options.{isSome}
 use Rattle.std.specs.Written.{signed}
 use Rattle.std.specs.declared.option.Option.{Option}
@@ -22,6 +22,7 @@ use Rattle.ftpl.specs.Properties.{kindNumber}
 use Rattle.book_text.specs.declared.words.Keyword.{Keyword}
 use Rattle.book_text.specs.declared.words.Keyword.the-variants.{Name, In, Bound, Child, Same, Up, AtMost}
 use Rattle.book_text.specs.declared.scopes.Scope.{Scope}
+use Rattle.book_words.specs.Cuts.{part}
 use Rattle.book_text.specs.Rules.{Text}
 use Rattle.book_text.specs.Words.{spelt, variableText, quantifierOf, openingOf, kindOf, keywordOf}
 
@@ -182,10 +183,6 @@ abbrev pub run : State → List Text → State
 run st [] = st
 run st (t ∷ p) = run (step st t) p
 
--- the words from a up to e
-abbrev pub mid : List Text → ℕ → ℕ → List Text
-mid s a e = take (e - a) (drop a s)
-
 -- more words are to follow
 abbrev pub Running : State → Type 0
 Running dead = ⊥
@@ -206,5 +203,5 @@ Running (done sc d k) = Unit {0}
 pub record Stuck (st : State) (s : List Text) (a e : ℕ) : Type 0 where
   pub ahead : a ≤ e
   pub inside : e ≤ length s
-  pub alive : Running (run st (mid s a e))
-  pub wrong : step (run st (mid s a e)) (getD s e []) ≡ dead
+  pub alive : Running (run st (part s a e))
+  pub wrong : step (run st (part s a e)) (getD s e []) ≡ dead

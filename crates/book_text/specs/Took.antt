@@ -16,7 +16,8 @@ use Rattle.book_text.specs.declared.parts.Stop.{Stop}
 use Rattle.book_text.specs.declared.parts.Stop.the-variants.{Wrong, Memory}
 use Rattle.book_text.specs.declared.scopes.Scope.{Scope}
 use Rattle.book_text.specs.Rules.{Text, Level, loose, tight, single, plain, Reads, form, leaves, scopeOf, PropertySays}
-use Rattle.book_text.specs.States.{State, Stuck, mid, nameOfNext}
+use Rattle.book_words.specs.Cuts.{part}
+use Rattle.book_text.specs.States.{State, Stuck, nameOfNext}
 use Rattle.book_text.specs.Words.{kindText}
 
 -- the sign does not stand at e, or no test may follow the first k
@@ -34,7 +35,7 @@ Shut plain s e k = Unit {0}
 pub record Took (l : Level) (sc : Scope) (n k : ℕ) (s : List Text) (a : ℕ) (x : Part) : Type 0 where
   pub ahead : a < x .next
   pub inside : x .next ≤ length s
-  pub reads : Reads sc l n (mid s a (x .next)) (form (x .tests))
+  pub reads : Reads sc l n (part s a (x .next)) (form (x .tests))
   pub counted : x .count ≡ k + leaves (form (x .tests))
   pub more : k < x .count
   pub few : x .count ≤ 16
@@ -48,7 +49,7 @@ Failed st s a Memory = Unit {0}
 -- a variable is bound over rows of the kind k by the three words from a on
 pub record Bound (o : Option VariableKind) (s : List Text) (a : ℕ) (k : VariableKind) : Type 0 where
   pub inside : a + 3 ≤ length s
-  pub words : mid s a (a + 3) ≡ nameOfNext o ∷ codes ":" ∷ kindText k ∷ []
+  pub words : part s a (a + 3) ≡ nameOfNext o ∷ codes ":" ∷ kindText k ∷ []
 
 -- the words from a on are a colon and the tests of the rule, up to the end of the line
 pub record TestsTaken (b : Binder) (c : Option Binder) (s : List Text) (a : ℕ) (x : Rule) : Type 0 where
@@ -59,10 +60,10 @@ pub record TestsTaken (b : Binder) (c : Option Binder) (s : List Text) (a : ℕ)
   pub tests : List Text
   pub reads : Reads (scopeOf b c) loose 8 tests (form (x .property .tests))
   pub few : leaves (form (x .property .tests)) ≤ 16
-  pub words : mid s a (x .next) ≡ codes ":" ∷ (tests ++ (codes "\n" ∷ []))
+  pub words : part s a (x .next) ≡ codes ":" ∷ (tests ++ (codes "\n" ∷ []))
 
 -- the words from a on are the rule of the property
 pub record RuleTaken (s : List Text) (a : ℕ) (x : Rule) : Type 0 where
   pub ahead : a < x .next
   pub inside : x .next ≤ length s
-  pub says : PropertySays (x .property) (mid s a (x .next))
+  pub says : PropertySays (x .property) (part s a (x .next))

@@ -14,9 +14,9 @@ use crate::parts::joins;
 use crate::parts::not_of;
 use crate::scopes::Scope;
 use crate::single_tests::single_test;
-use book_words::Token;
 use crate::words::is;
 use crate::words::word_at;
+use book_words::Token;
 use std::alloc::Global;
 
 /// Tests joined by `|`.

@@ -9,9 +9,9 @@ ghost use Rattle.std.specs.shelf.Text.{sameBytes};
 ghost use Rattle.book_words.specs.Cuts.{wordsOf};
 ghost use Rattle.book_text.specs.declared.parts.Stop.the-variants.{Memory};
 ghost use Rattle.book_text.specs.Rules.{form, turned, joined, either};
-use book_words::Token;
 use crate::words::is;
 use crate::words::word_at;
+use book_words::Token;
 use ftpl::properties::Tests;
 use std::alloc::Global;
 

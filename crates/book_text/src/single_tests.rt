@@ -13,9 +13,9 @@ use crate::parts::Stop;
 use crate::scopes::Scope;
 use crate::scopes::is_viable;
 use crate::words::Keyword;
-use book_words::Token;
 use crate::words::as_keyword;
 use crate::words::word_at;
+use book_words::Token;
 use ftpl::properties::Test;
 use ftpl::properties::Tests;
 

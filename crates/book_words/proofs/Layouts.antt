@@ -25,11 +25,11 @@ at-most Word Word g h = inr h
 not-sign : (b : ℕ) → kindOf b ≡ Plain → isSign b ≡ true → ⊥
 not-sign b k e = by (eqb b 32) (eqb b 10) (isSign b) k e
   where
-  by : (x y z : Bool) → cond x Blank (cond y Newline (cond z SignByte Plain)) ≡ Plain → z ≡ true → ⊥
-  by true y z h e = let q : _≡_ {A = ℕ} 0 1 = cc in omega arith
-  by false true z h e = let q : _≡_ {A = ℕ} 0 1 = cc in omega arith
-  by false false true h e = let q : _≡_ {A = ℕ} 0 1 = cc in omega arith
-  by false false false h e = true≢false (sym e)
+    by : (x y z : Bool) → cond x Blank (cond y Newline (cond z SignByte Plain)) ≡ Plain → z ≡ true → ⊥
+    by true y z h e = let q : _≡_ {A = ℕ} 0 1 = cc in omega arith
+    by false true z h e = let q : _≡_ {A = ℕ} 0 1 = cc in omega arith
+    by false false true h e = let q : _≡_ {A = ℕ} 0 1 = cc in omega arith
+    by false false false h e = true≢false (sym e)
 
 pub not-plain-32 : kindOf 32 ≡ Plain → ⊥
 not-plain-32 h = let q : _≡_ {A = ℕ} 0 1 = cc in omega arith
@@ -142,12 +142,12 @@ lay c (t ∷ p) h =
     let g = some-gap c d in
     (g .0 ++ (t ++ r .0), more d (g .0) t (h .0 .1) (g .1) (r .1))
   where
-  some-gap : (c d : Class) → (g : List ℕ) × Gap c d g
-  some-gap Line d = ([], refl)
-  some-gap Sign d = ([], inl refl)
-  some-gap Word Line = ([], refl)
-  some-gap Word Sign = ([], inl refl)
-  some-gap Word Word = (32 ∷ [], refl)
+    some-gap : (c d : Class) → (g : List ℕ) × Gap c d g
+    some-gap Line d = ([], refl)
+    some-gap Sign d = ([], inl refl)
+    some-gap Word Line = ([], refl)
+    some-gap Word Sign = ([], inl refl)
+    some-gap Word Word = (32 ∷ [], refl)
 
 -- where a blank is misplaced nothing is laid out
 blank-stops : {c : Class} {p : List (List ℕ)} {s : List ℕ} → Laid c p s → (x : List ℕ) → s ≡ 32 ∷ x → (d : Class) × (t z : List ℕ) × Gap c d (32 ∷ []) × Proper d t × (x ≡ t ++ z)
@@ -180,8 +180,8 @@ no-last-blank l = let r = blank-stops l [] refl in append-some [] (r .1) (r .2) 
 pub no-blank-at-end : {p : List (List ℕ)} (x : List ℕ) → Laid Word p (32 ∷ 10 ∷ x) → ⊥
 no-blank-at-end x l = let r = blank-stops l (10 ∷ x) refl in by (r .0) (r .1) (r .2) (r .3) (r .4) (r .5)
   where
-  by : (d : Class) (t z : List ℕ) → Gap Word d (32 ∷ []) → Proper d t → 10 ∷ x ≡ t ++ z → ⊥
-  by Line t z g h e = word-line-gap g
-  by Sign t z g h e = let q = e ∙ ap (λ y. y ++ z) (h .2) in let b : 10 ≡ h .0 = cc in true≢false (sym (h .1) ∙ ap isSign (sym b))
-  by Word [] z g h e = h .0 refl
-  by Word (b ∷ t) z g h e = let q : b ≡ 10 = cc in not-plain-10 (subst (λ y. kindOf y ≡ Plain) q (h .1 .0))
+    by : (d : Class) (t z : List ℕ) → Gap Word d (32 ∷ []) → Proper d t → 10 ∷ x ≡ t ++ z → ⊥
+    by Line t z g h e = word-line-gap g
+    by Sign t z g h e = let q = e ∙ ap (λ y. y ++ z) (h .2) in let b : 10 ≡ h .0 = cc in true≢false (sym (h .1) ∙ ap isSign (sym b))
+    by Word [] z g h e = h .0 refl
+    by Word (b ∷ t) z g h e = let q : b ≡ 10 = cc in not-plain-10 (subst (λ y. kindOf y ≡ Plain) q (h .1 .0))

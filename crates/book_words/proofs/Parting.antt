@@ -19,7 +19,7 @@ use Rattle.book_words.specs.Bytes.{kindOf, isSign}
 use Rattle.book_words.specs.Layout.{Gap}
 use Rattle.book_words.specs.Cuts.{part, Ended, Begins, EndsAt, Skips, Blanked, Misplaced, gapFits}
 
-pub part-join : (s : List ℕ) (a b e : ℕ) → a ≤ b → b ≤ e → part s a e ≡ part s a b ++ part s b e
+pub part-join : {A : Type 0} (s : List A) (a b e : ℕ) → a ≤ b → b ≤ e → part s a e ≡ part s a b ++ part s b e
 part-join s a b e h k =
     let n : e - a ≡ (b - a) + (e - b) = omega arith in
     let m : a + (b - a) ≡ b = omega arith in
@@ -28,16 +28,16 @@ part-join s a b e h k =
     ∙ sym (take-append-drop (b - a) (take ((b - a) + (e - b)) (drop a s)))
     ∙ (λ i. take-take (b - a) ((b - a) + (e - b)) (drop a s) l i ++ (drop-take (b - a) (e - b) (drop a s) ∙ ap (take (e - b)) (drop-drop (b - a) a s ∙ ap (λ i. drop i s) m)) i)
 
-pub part-first : (s : List ℕ) (b e : ℕ) → b < e → e ≤ length s → part s b e ≡ getD s b 0 ∷ part s (b + 1) e
-part-first s b e h k =
+pub part-first : {A : Type 0} (d : A) (s : List A) (b e : ℕ) → b < e → e ≤ length s → part s b e ≡ getD s b d ∷ part s (b + 1) e
+part-first d s b e h k =
     let n : e - b ≡ (e - (b + 1)) + 1 = omega arith in
-    ap (λ i. take i (drop b s)) (n ∙ add-one (e - (b + 1))) ∙ ap (take (suc (e - (b + 1)))) (drop-more s b 0 (omega arith))
+    ap (λ i. take i (drop b s)) (n ∙ add-one (e - (b + 1))) ∙ ap (take (suc (e - (b + 1)))) (drop-more s b d (omega arith))
 
-pub part-none : (s : List ℕ) (a : ℕ) → part s a a ≡ []
+pub part-none : {A : Type 0} (s : List A) (a : ℕ) → part s a a ≡ []
 part-none s a = let n : a - a ≡ 0 = omega arith in ap (λ i. take i (drop a s)) n
 
-pub part-one : (s : List ℕ) (a : ℕ) → a < length s → part s a (a + 1) ≡ getD s a 0 ∷ []
-part-one s a h = part-first s a (a + 1) (omega arith) (omega arith) ∙ ap (λ z. getD s a 0 ∷ z) (part-none s (a + 1))
+pub part-one : {A : Type 0} (d : A) (s : List A) (a : ℕ) → a < length s → part s a (a + 1) ≡ getD s a d ∷ []
+part-one d s a h = part-first d s a (a + 1) (omega arith) (omega arith) ∙ ap (λ z. getD s a d ∷ z) (part-none s (a + 1))
 
 pub length-part : (s : List ℕ) (a e : ℕ) → e ≤ length s → length (part s a e) ≡ e - a
 length-part s a e h = length-take-le (e - a) (drop a s) (omega (arith, length-drop a s))
@@ -46,27 +46,28 @@ pub getD-part : (s : List ℕ) (a e k : ℕ) → k < e - a → getD (part s a e)
 getD-part s a e k h = getD-take (e - a) (drop a s) k 0 h ∙ getD-drop a s k 0
 
 pub ends-line : (s : List ℕ) (a : ℕ) → a < length s → getD s a 0 ≡ 10 → EndsAt Line s a (a + 1)
-ends-line s a h b = record { ahead = omega arith; inside = omega arith; proper = part-one s a h ∙ ap (λ z. z ∷ []) b; ended = tt }
+ends-line s a h b = record { ahead = omega arith; inside = omega arith; proper = part-one 0 s a h ∙ ap (λ z. z ∷ []) b; ended = tt }
 
 pub ends-sign : (s : List ℕ) (a : ℕ) → a < length s → isSign (getD s a 0) ≡ true → EndsAt Sign s a (a + 1)
-ends-sign s a h b = record { ahead = omega arith; inside = omega arith; proper = (getD s a 0, b, part-one s a h); ended = tt }
+ends-sign s a h b = record { ahead = omega arith; inside = omega arith; proper = (getD s a 0, b, part-one 0 s a h); ended = tt }
 
 pub ends-word : (s : List ℕ) (a e : ℕ) → a < length s → kindOf (getD s a 0) ≡ Plain → a ≤ e → e ≤ length s → ((k : ℕ) → a ≤ k → k < e → kindOf (getD s k 0) ≡ Plain) → (e < length s → kindOf (getD s e 0) ≡ Plain → ⊥) → EndsAt Word s a e
 ends-word s a e h b l i p q =
     let m : a < e = ⊎-elim (λ z. z) (λ z. absurd (q (omega arith) (subst (λ y. kindOf (getD s y 0) ≡ Plain) (omega arith) b))) (cases-lt a e) in
     record {
-      ahead = m; inside = i;
+      ahead = m;
+      inside = i;
       proper = (λ z. omega (arith, ap length z, length-part s a e i), all-from-getD (λ b. kindOf b ≡ Plain) (part s a e) 0 (λ k g. let n = length-part s a e i in subst (λ y. kindOf y ≡ Plain) (sym (getD-part s a e k (omega arith))) (p (a + k) (omega arith) (omega arith))));
       ended = q;
     }
 
 one-blank : (s : List ℕ) (i a : ℕ) → Blanked s i a → (i ≤ a) × ((part s i a ≡ []) ⊎ (part s i a ≡ 32 ∷ []))
 one-blank s i a (inl h) = (omega (arith, h .0), inl (ap (part s i) (h .0) ∙ part-none s i))
-one-blank s i a (inr h) = (omega (arith, h .0), inr (ap (part s i) (h .0) ∙ part-one s i (h .1) ∙ ap (λ z. z ∷ []) (h .2)))
+one-blank s i a (inr h) = (omega (arith, h .0), inr (ap (part s i) (h .0) ∙ part-one 0 s i (h .1) ∙ ap (λ z. z ∷ []) (h .2)))
 
 word-gap : (s : List ℕ) (i a : ℕ) → Blanked s i a → a < length s → kindOf (getD s a 0) ≡ Plain → Ended Word s i → (i ≤ a) × (part s i a ≡ 32 ∷ [])
 word-gap s i a (inl h) l b e = absurd (e (omega (arith, h .0)) (subst (λ z. kindOf (getD s z 0) ≡ Plain) (h .0) b))
-word-gap s i a (inr h) l b e = (omega (arith, h .0), ap (part s i) (h .0) ∙ part-one s i (h .1) ∙ ap (λ z. z ∷ []) (h .2))
+word-gap s i a (inr h) l b e = (omega (arith, h .0), ap (part s i) (h .0) ∙ part-one 0 s i (h .1) ∙ ap (λ z. z ∷ []) (h .2))
 
 no-gap : (s : List ℕ) (i a : ℕ) → i ≡ a → (i ≤ a) × (part s i a ≡ [])
 no-gap s i a e = (omega arith, ap (part s i) (sym e) ∙ part-none s i)

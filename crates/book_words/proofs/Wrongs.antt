@@ -38,9 +38,9 @@ ends-so s i a h (inr e) = inr (up-to-at s i a h ∙ ap (λ z. take i s ++ z) e)
 none-left : (c : Class) {v : List (List ℕ)} → Laid c v [] → v ≡ []
 none-left c l = nothing-laid l refl
   where
-  nothing-laid : {c : Class} {v : List (List ℕ)} {s : List ℕ} → Laid c v s → s ≡ [] → v ≡ []
-  nothing-laid none e = refl
-  nothing-laid (more d g t {s = z} h k l) e = absurd (append-some g t z (proper-some d t h) (sym e))
+    nothing-laid : {c : Class} {v : List (List ℕ)} {s : List ℕ} → Laid c v s → s ≡ [] → v ≡ []
+    nothing-laid none e = refl
+    nothing-laid (more d g t {s = z} h k l) e = absurd (append-some g t z (proper-some d t h) (sym e))
 
 module _ (L : List (List ℕ) → Type 0) (proper : (p : List (List ℕ)) → L p → All (λ t. (d : Class) × Proper d t) p) where
   -- words that go on to the language are laid out so that the text goes on
@@ -87,12 +87,12 @@ module _ (L : List (List ℕ) → Type 0) (proper : (p : List (List ℕ)) → L 
             never = λ after e h y. ended after (e refl ∙ ap (λ z. take 1 (drop z s)) (omega arith) ∙ ap (take 1) r) y;
           }
         where
-        ended : (after : List ℕ) → take 1 after ≡ 10 ∷ [] → TextOf L (take (x .token .at) s ++ after) → ⊥
-        ended [] e y = let z : _≡_ {A = ℕ} 0 1 = cc in omega arith
-        ended (b ∷ r) e y =
-            let w = subst (λ d. Proper d (part s (x .token .at) (x .end))) q (t .proper) in
-            let v : b ≡ 10 = cc in
-            no-text x t n r (subst (λ d. Stays d r) (sym q) tt) (subst (λ z. TextOf L (take (x .token .at) s ++ z)) (ap (λ z. z ∷ r) v ∙ ap (λ z. z ++ r) (sym w)) y)
+          ended : (after : List ℕ) → take 1 after ≡ 10 ∷ [] → TextOf L (take (x .token .at) s ++ after) → ⊥
+          ended [] e y = let z : _≡_ {A = ℕ} 0 1 = cc in omega arith
+          ended (b ∷ r) e y =
+              let w = subst (λ d. Proper d (part s (x .token .at) (x .end))) q (t .proper) in
+              let v : b ≡ 10 = cc in
+              no-text x t n r (subst (λ d. Stays d r) (sym q) tt) (subst (λ z. TextOf L (take (x .token .at) s ++ z)) (ap (λ z. z ∷ r) v ∙ ap (λ z. z ++ r) (sym w)) y)
 
     -- the end of the text where a word is lacking
     pub lacking-end : i ≡ length s → (u : List (List ℕ)) → L (wordsOf us ++ u) → (L (wordsOf us) → ⊥) → FirstWrong L s i []
@@ -105,16 +105,16 @@ module _ (L : List (List ℕ) → Type 0) (proper : (p : List (List ℕ)) → L 
           never = λ after e h y. nothing after (e refl ∙ ap (take 1) (drop-all (i + 0) s (omega arith))) y;
         }
       where
-      nothing : (after : List ℕ) → take 1 after ≡ [] → TextOf L (take i s ++ after) → ⊥
-      nothing (b ∷ r) e y = let z : _≡_ {A = ℕ} 0 1 = cc in omega arith
-      nothing [] e y =
-          let b = begins k (y .0) [] (no-more c) (y .2) in
-          n (subst L (b .1 ∙ ap (λ z. wordsOf us ++ z) (none-left c (b .2)) ∙ append-nil (wordsOf us)) (y .1))
-        where
-        no-more : (c : Class) → Stays c []
-        no-more Line = tt
-        no-more Sign = tt
-        no-more Word = tt
+        nothing : (after : List ℕ) → take 1 after ≡ [] → TextOf L (take i s ++ after) → ⊥
+        nothing (b ∷ r) e y = let z : _≡_ {A = ℕ} 0 1 = cc in omega arith
+        nothing [] e y =
+            let b = begins k (y .0) [] (no-more c) (y .2) in
+            n (subst L (b .1 ∙ ap (λ z. wordsOf us ++ z) (none-left c (b .2)) ∙ append-nil (wordsOf us)) (y .1))
+          where
+            no-more : (c : Class) → Stays c []
+            no-more Line = tt
+            no-more Sign = tt
+            no-more Word = tt
 
     -- a blank at the start of a line
     pub misplaced-first : c ≡ Line → Misplaced Line s i → (u : List (List ℕ)) → L (wordsOf us ++ u) → FirstWrong L s i []
@@ -128,27 +128,27 @@ module _ (L : List (List ℕ) → Type 0) (proper : (p : List (List ℕ)) → L 
           never = λ after e h y. stops after (e refl ∙ ap (λ z. take 1 (drop z s)) (omega arith) ∙ ap (take 1) r ∙ ap (λ z. z ∷ []) (m .1)) y;
         }
       where
-      stops : (after : List ℕ) → take 1 after ≡ 32 ∷ [] → TextOf L (take i s ++ after) → ⊥
-      stops [] e y = let z : _≡_ {A = ℕ} 0 1 = cc in omega arith
-      stops (b ∷ r) e y =
-          let v : b ≡ 32 = cc in
-          let y′ = subst (λ z. Laid Line (y .0) (take i s ++ (z ∷ r))) v (y .2) in
-          let b = begins k (y .0) (32 ∷ r) (blank-stays c r) y′ in
-          no-first-blank r (subst (λ d. Laid d (b .0) (32 ∷ r)) q (b .2))
+        stops : (after : List ℕ) → take 1 after ≡ 32 ∷ [] → TextOf L (take i s ++ after) → ⊥
+        stops [] e y = let z : _≡_ {A = ℕ} 0 1 = cc in omega arith
+        stops (b ∷ r) e y =
+            let v : b ≡ 32 = cc in
+            let y′ = subst (λ z. Laid Line (y .0) (take i s ++ (z ∷ r))) v (y .2) in
+            let b = begins k (y .0) (32 ∷ r) (blank-stays c r) y′ in
+            no-first-blank r (subst (λ d. Laid d (b .0) (32 ∷ r)) q (b .2))
 
     -- a blank that nothing may follow
     pub misplaced-more : (i < length s) → getD s i 0 ≡ 32 → ((r : List ℕ) (v : List (List ℕ)) → take 1 r ≡ take 1 (drop (i + 1) s) → Laid c v (32 ∷ r) → ⊥) → (u : List (List ℕ)) → L (wordsOf us ++ u) → FirstWrong L s (i + 1) []
     misplaced-more h b m u l =
         let g = goes-on k u l in
-        let f = up-to-at s i (i + 1) (omega arith) ∙ ap (λ z. take i s ++ z) (part-one s i h ∙ ap (λ z. z ∷ []) b) in
+        let f = up-to-at s i (i + 1) (omega arith) ∙ ap (λ z. take i s ++ z) (part-one 0 s i h ∙ ap (λ z. z ∷ []) b) in
         record {
           inside = omega arith;
           word = refl;
           before = (take i s, g .0, inr f, g .1);
           never = λ after e _ y.
-            let y′ = subst (Laid Line (y .0)) (ap (λ z. z ++ after) f ∙ append-assoc (take i s) (32 ∷ []) after) (y .2) in
-            let v = begins k (y .0) (32 ∷ after) (blank-stays c after) y′ in
-            m after (v .0) (e refl ∙ ap (λ z. take 1 (drop z s)) (omega arith)) (v .2);
+              let y′ = subst (Laid Line (y .0)) (ap (λ z. z ++ after) f ∙ append-assoc (take i s) (32 ∷ []) after) (y .2) in
+              let v = begins k (y .0) (32 ∷ after) (blank-stays c after) y′ in
+              m after (v .0) (e refl ∙ ap (λ z. take 1 (drop z s)) (omega arith)) (v .2);
         }
 
     one-byte : (r : List ℕ) (b : ℕ) → take 1 r ≡ b ∷ [] → (q : List ℕ) × (r ≡ b ∷ q)
@@ -237,10 +237,11 @@ words-at : {s : List ℕ} {ts : List Token} {n : ℕ} (a : At s ts n) (r : Token
 words-at {s} {ts} {n} a r =
     let x = a .x .token in
     let w = ap wordsOf (a .list) ∙ words-more (a .us) (x ∷ a .rest) in
-    let m : length (wordsOf (a .us)) ≡ n = words-long (a .us) ∙ a .long in
-    ((λ i. take (sym m i) (w i)) ∙ take-own (wordsOf (a .us)) (now (x .word) ∷ wordsOf (a .rest)),
-    (λ i. getD (w i) (sym m i) []) ∙ getD-own (wordsOf (a .us)) (now (x .word)) (wordsOf (a .rest)) [],
-    (λ i. getD (a .list i) (sym (a .long) i) r) ∙ getD-own (a .us) x (a .rest) r)
+    let m : length (wordsOf (a .us)) ≡ n = words-long (a .us) ∙ a .long in (
+      (λ i. take (sym m i) (w i)) ∙ take-own (wordsOf (a .us)) (now (x .word) ∷ wordsOf (a .rest)),
+      (λ i. getD (w i) (sym m i) []) ∙ getD-own (wordsOf (a .us)) (now (x .word)) (wordsOf (a .rest)) [],
+      (λ i. getD (a .list i) (sym (a .long) i) r) ∙ getD-own (a .us) x (a .rest) r,
+    )
 
 not-newline : (d : Class) (t : List ℕ) → Proper d t → (d ≡ Line → ⊥) → t ≡ 10 ∷ [] → ⊥
 not-newline Line t h n e = n refl
@@ -280,7 +281,7 @@ module _ (L : List (List ℕ) → Type 0) (proper : (p : List (List ℕ)) → L 
     wrong-behind n h p (inl q) u l m = let t = p .end h q in told-as e [] (t .0) (t .1) (lacking-end L proper k q u l (m q))
     wrong-behind n h p (inr q) u l m = let t = p .lacks h (within c q) in told-as (lackAt c e) [] (t .0) (t .1) (misplaced L proper k c refl q u l)
       where
-      within : (d : Class) → Misplaced d s e → e < length s
-      within Line m = m .0
-      within Sign m = m .0
-      within Word m = m .0
+        within : (d : Class) → Misplaced d s e → e < length s
+        within Line m = m .0
+        within Sign m = m .0
+        within Word m = m .0

@@ -19,8 +19,8 @@ use Rattle.book_words.specs.Layout.{Proper, Gap}
 abbrev pub wordsOf : List Token → List (List ℕ)
 wordsOf = map (λ t. now (t .word))
 
--- the bytes from a up to e
-abbrev pub part : List ℕ → ℕ → ℕ → List ℕ
+-- what stands from a up to e
+abbrev pub part : {A : Type 0} → List A → ℕ → ℕ → List A
 part s a e = take (e - a) (drop a s)
 
 -- a word goes on as far as plain bytes do

@@ -113,7 +113,10 @@ pub(crate) fn next_token<'a>(text: &'a [u8], end: usize, class: Class) -> Option
     }
     let behind = token_end(text, at, found);
     Some(Found {
-        token: Token { word: &text[at..behind], at },
+        token: Token {
+            word: &text[at..behind],
+            at,
+        },
         class: found,
         end: behind,
     })

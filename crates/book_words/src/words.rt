@@ -46,10 +46,16 @@ pub fn point<'a>(text: &'a [u8], words: &Words<'a>, n: usize) -> Token<'a>
     if n < tokens.len() {
         told(tokens[n])
     } else if words.end == text.len() {
-        Token { word: &text[words.end..words.end], at: words.end }
+        Token {
+            word: &text[words.end..words.end],
+            at: words.end,
+        }
     } else {
         let at = lack_at(words.class, words.end);
-        Token { word: &text[words.end..words.end], at }
+        Token {
+            word: &text[words.end..words.end],
+            at,
+        }
     }
 }
 
@@ -60,7 +66,10 @@ fn told<'a>(token: Token<'a>) -> Token<'a>
     ensures word { λ r. ⌜ ((now (token .entry .word) ≡ 10 ∷ [] → ⊥) → now (r .word) ≡ now (token .entry .word)) ⌝ }
 {
     if is_newline(token.word) {
-        Token { word: &token.word[0..0], at: token.at }
+        Token {
+            word: &token.word[0..0],
+            at: token.at,
+        }
     } else {
         token
     }
