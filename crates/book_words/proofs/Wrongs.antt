@@ -14,11 +14,11 @@ use Rattle.book_words.specs.declared.bytes.Class.{Class}
 use Rattle.book_words.specs.declared.bytes.Class.the-variants.{Line, Sign, Word}
 use Rattle.book_words.specs.declared.tokens.Token.{Token}
 use Rattle.book_words.specs.declared.tokens.Found.{Found}
-use Rattle.book_words.specs.Cuts.{part, wordsOf, Stands, Cut, start, next, Misplaced, lackAt, Points}
+use Rattle.book_words.specs.Cuts.{part, wordsOf, Stands, Cut, start, next, Misplaced, lackAt, Points, Ended}
 use Rattle.book_words.specs.Bytes.{kindOf, isSign}
 use Rattle.book_words.specs.declared.bytes.ByteKind.the-variants.{Plain}
 use Rattle.book_words.specs.Layout.{Proper, AtMostBlank, Gap, Laid, none, more, Stays}
-use Rattle.book_words.specs.Wrong.{TextOf, FirstWrong}
+use Rattle.book_words.specs.Wrong.{TextOf, FirstWrong, Whole}
 use Rattle.book_words.proofs.Layouts.{lay, at-most, not-plain-32, not-plain-10, no-first-blank, no-two-blanks, no-last-blank, no-blank-at-end, proper-some, append-some}
 use Rattle.book_words.proofs.Finding.{front, one-more, words-more, laid-on, begins, blank-stays}
 use Rattle.book_words.proofs.Parting.{part-join, part-one, length-part}
@@ -29,6 +29,15 @@ all-behind P (t ∷ p) u h = all-behind P p u (h .1)
 
 up-to-at : (s : List ℕ) (i a : ℕ) → i ≤ a → take a s ≡ take i s ++ part s i a
 up-to-at s i a h = sym (front s a) ∙ part-join s 0 i a (omega arith) h ∙ ap (λ z. z ++ part s i a) (front s i)
+
+ended-stays : (d : Class) (s : List ℕ) (e : ℕ) → Ended d s e → Stays d (drop e s)
+ended-stays Line s e h = tt
+ended-stays Sign s e h = tt
+ended-stays Word s e h = ⊎-elim (λ l. subst (Stays Word) (sym (drop-more s e 0 l)) (h l)) (λ l. subst (Stays Word) (sym (drop-all e s l)) tt) (cases-lt e (length s))
+
+whole-token : (d : Class) (w r : List ℕ) → Proper d w → Stays d r → Whole w r
+whole-token d [] r h k = absurd (proper-some d [] h refl)
+whole-token d (x ∷ w) r h k = (d, h, k)
 
 -- how the front ends
 ends-so : (s : List ℕ) (i a : ℕ) → i ≤ a → AtMostBlank (part s i a) → (take a s ≡ take i s) ⊎ (take a s ≡ take i s ++ (32 ∷ []))
@@ -69,6 +78,7 @@ module _ (L : List (List ℕ) → Type 0) (proper : (p : List (List ℕ)) → L 
           (record {
             inside = omega (arith, m, t .ahead, t .inside);
             word = ap (λ z. take z (drop (x .token .at) s)) m;
+            whole = subst (λ z. Whole w (drop z s)) (omega (arith, m, t .ahead)) (whole-token (x .class) w (drop (x .end) s) (t .proper) (ended-stays (x .class) s (x .end) (t .ended)));
             before = (take i s, g .0, ends-so s i (x .token .at) (t .behind) (at-most c (x .class) (part s i (x .token .at)) (t .gap)), g .1);
             never = λ after e h y. no-text x t n after (h (x .class) (t .proper)) y;
           })
@@ -83,6 +93,7 @@ module _ (L : List (List ℕ) → Type 0) (proper : (p : List (List ℕ)) → L 
           record {
             inside = omega (arith, t .ahead, t .inside);
             word = refl;
+            whole = subst (λ z. Whole [] (drop z s)) (omega arith) (subst (Whole []) (sym r) (inr refl));
             before = (take i s, g .0, ends-so s i (x .token .at) (t .behind) (at-most c (x .class) (part s i (x .token .at)) (t .gap)), g .1);
             never = λ after e h y. ended after (e refl ∙ ap (λ z. take 1 (drop z s)) (omega arith) ∙ ap (take 1) r) y;
           }
@@ -101,6 +112,7 @@ module _ (L : List (List ℕ) → Type 0) (proper : (p : List (List ℕ)) → L 
         record {
           inside = omega arith;
           word = refl;
+          whole = subst (Whole []) (sym (drop-all (i + 0) s (omega arith))) tt;
           before = (take i s, g .0, inl refl, g .1);
           never = λ after e h y. nothing after (e refl ∙ ap (take 1) (drop-all (i + 0) s (omega arith))) y;
         }
@@ -124,6 +136,7 @@ module _ (L : List (List ℕ) → Type 0) (proper : (p : List (List ℕ)) → L 
         record {
           inside = omega (arith, m .0);
           word = refl;
+          whole = subst (λ z. Whole [] (drop z s)) (omega arith) (subst (Whole []) (sym r) (inl (m .1)));
           before = (take i s, g .0, inl refl, g .1);
           never = λ after e h y. stops after (e refl ∙ ap (λ z. take 1 (drop z s)) (omega arith) ∙ ap (take 1) r ∙ ap (λ z. z ∷ []) (m .1)) y;
         }
@@ -137,13 +150,14 @@ module _ (L : List (List ℕ) → Type 0) (proper : (p : List (List ℕ)) → L 
             no-first-blank r (subst (λ d. Laid d (b .0) (32 ∷ r)) q (b .2))
 
     -- a blank that nothing may follow
-    pub misplaced-more : (i < length s) → getD s i 0 ≡ 32 → ((r : List ℕ) (v : List (List ℕ)) → take 1 r ≡ take 1 (drop (i + 1) s) → Laid c v (32 ∷ r) → ⊥) → (u : List (List ℕ)) → L (wordsOf us ++ u) → FirstWrong L s (i + 1) []
-    misplaced-more h b m u l =
+    pub misplaced-more : (i < length s) → getD s i 0 ≡ 32 → ((r : List ℕ) (v : List (List ℕ)) → take 1 r ≡ take 1 (drop (i + 1) s) → Laid c v (32 ∷ r) → ⊥) → Whole [] (drop (i + 1) s) → (u : List (List ℕ)) → L (wordsOf us ++ u) → FirstWrong L s (i + 1) []
+    misplaced-more h b m q u l =
         let g = goes-on k u l in
         let f = up-to-at s i (i + 1) (omega arith) ∙ ap (λ z. take i s ++ z) (part-one 0 s i h ∙ ap (λ z. z ∷ []) b) in
         record {
           inside = omega arith;
           word = refl;
+          whole = subst (λ z. Whole [] (drop z s)) (omega arith) q;
           before = (take i s, g .0, inr f, g .1);
           never = λ after e _ y.
               let y′ = subst (Laid Line (y .0)) (ap (λ z. z ++ after) f ∙ append-assoc (take i s) (32 ∷ []) after) (y .2) in
@@ -182,11 +196,14 @@ module _ (L : List (List ℕ) → Type 0) (proper : (p : List (List ℕ)) → L 
         (λ h. no-last-blank (subst (λ z. Laid Word v (32 ∷ z)) (no-byte r (e ∙ last-byte h)) l))
         (cases-lt (i + 1) (length s))
 
+    empty-here : (i + 1 < length s → (getD s (i + 1) 0 ≡ 32) ⊎ (getD s (i + 1) 0 ≡ 10)) → Whole [] (drop (i + 1) s)
+    empty-here m = ⊎-elim (λ h. subst (Whole []) (sym (drop-more s (i + 1) 0 h)) (m h)) (λ h. subst (Whole []) (sym (drop-all (i + 1) s h)) tt) (cases-lt (i + 1) (length s))
+
     -- a misplaced blank
     pub misplaced : (d : Class) → c ≡ d → Misplaced d s i → (u : List (List ℕ)) → L (wordsOf us ++ u) → FirstWrong L s (lackAt d i) []
     misplaced Line q m u l = misplaced-first q m u l
-    misplaced Sign q m u l = misplaced-more (m .0) (m .1) (λ r v e y. two c r v (m .2) e y) u l
-    misplaced Word q m u l = misplaced-more (m .0) (m .1) (λ r v e y. two-or-end r v (m .2) e (subst (λ d. Laid d v (32 ∷ r)) q y)) u l
+    misplaced Sign q m u l = misplaced-more (m .0) (m .1) (λ r v e y. two c r v (m .2) e y) (empty-here (λ h. inl (m .2 h))) u l
+    misplaced Word q m u l = misplaced-more (m .0) (m .1) (λ r v e y. two-or-end r v (m .2) e (subst (λ d. Laid d v (32 ∷ r)) q y)) (empty-here (m .2)) u l
 
 -- the tokens before one of them
 pub record At (s : List ℕ) (ts : List Token) (n : ℕ) : Type 0 where
