@@ -113,12 +113,12 @@ is-name t e =
     let k = and-parts (leb (length t) 8) (allPlain t) (h .1) in
     record { some = omega (arith, leb-true 1 (length t) (h .0)); few = leb-true (length t) 8 (k .0); plain = plain-to t (k .1) }
 
-any-from : (f : ℕ → Bool) (n k : ℕ) → k < n → f k ≡ true → anyBelow f n ≡ true
+pub any-from : (f : ℕ → Bool) (n k : ℕ) → k < n → f k ≡ true → anyBelow f n ≡ true
 unfolding anyBelow
 any-from f zero k h e = absurd (omega arith)
 any-from f (suc n) k h e = by-test (eqb k n) (λ q. or-left (f n) _ (subst (λ m. f m ≡ true) (eqb-true k n q) e)) (λ q. or-right (f n) _ (any-from f n k (omega (arith, eqb-false)) e))
 
-any-to : (f : ℕ → Bool) (n : ℕ) → anyBelow f n ≡ true → (k : ℕ) × (k < n) × (f k ≡ true)
+pub any-to : (f : ℕ → Bool) (n : ℕ) → anyBelow f n ≡ true → (k : ℕ) × (k < n) × (f k ≡ true)
 unfolding anyBelow
 any-to f zero e = absurd (true≢false (sym e))
 any-to f (suc n) e = ⊎-elim (λ h. (n, omega arith, h)) (λ h. let r = any-to f n h in (r .0, omega (arith, r .1), r .2)) (or-cases (f n) (anyBelow f n) e)

@@ -36,7 +36,7 @@ pub mid-one : (s : List Text) (a : ℕ) → a < length s → part s a (a + 1) �
 mid-one s a h = part-one [] s a h
 
 -- a sign at b between two parts
-mid-sign : (s : List Text) (a b e : ℕ) (x : Text) → a ≤ b → b < e → e ≤ length s → getD s b [] ≡ x → part s a e ≡ part s a b ++ (x ∷ part s (b + 1) e)
+pub mid-sign : (s : List Text) (a b e : ℕ) (x : Text) → a ≤ b → b < e → e ≤ length s → getD s b [] ≡ x → part s a e ≡ part s a b ++ (x ∷ part s (b + 1) e)
 mid-sign s a b e x h k l q = part-join s a b e h (omega arith) ∙ ap (λ r. part s a b ++ r) (mid-first s b e k l ∙ ap (λ y. y ∷ part s (b + 1) e) q)
 
 -- where a word that is not empty stands, the text goes on

@@ -22,14 +22,14 @@ pub(crate) enum Keyword {
 }
 
 /// Whether two words are one.
-pub(crate) fn is(word: &[u8], text: &[u8]) -> bool
+pub fn is(word: &[u8], text: &[u8]) -> bool
     ensures { λ r. ⌜ r ≡ sameBytes (now (word .entry)) (now (text .entry)) ⌝ }
 {
     word == text
 }
 
 /// The word at an index, an empty one behind the last.
-pub(crate) fn word_at<'a>(tokens: &[Token<'a>], i: usize) -> &'a [u8]
+pub fn word_at<'a>(tokens: &[Token<'a>], i: usize) -> &'a [u8]
     ensures { λ r. ⌜ now r ≡ getD (wordsOf (now (tokens .entry))) i [] ⌝ }
 {
     if i < tokens.len() {
