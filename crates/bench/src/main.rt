@@ -1,5 +1,7 @@
 // Records a path on both scales side by side and shows what its formulas are worth: 1,000 positions, or with an argument 1,000,000 with the
 // positions a second for each tenth of the path.
+#![tactic(auto)]
+
 use ftpl::books::Book;
 use ftpl::formulas::{Core, Event, EventKind, EventList, Formula, Leaf, Leaves, Slot, Trace};
 use ftpl::properties::{Binder, Property, Quantifier, Test, Tests, Variable, VariableKind};

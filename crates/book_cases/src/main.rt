@@ -1,5 +1,7 @@
 // Reads book texts, one to a line of a file with `\n` for a newline and `\0` for a zero byte, and says what was found in each:
 // the book, with every parenthesis of its rules, or the line, the byte and the word that is wrong.
+#![tactic(auto)]
+
 mod formulas;
 mod properties;
 

@@ -1,4 +1,6 @@
 // Book text: properties, standing conditions and formulas read from text.
+#![tactic(auto)]
+
 mod joins;
 mod numerals;
 mod operands;

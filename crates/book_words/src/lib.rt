@@ -1,4 +1,6 @@
 // The words and signs of a book text: how a text is cut into them, and where blanks may stand.
+#![tactic(auto)]
+
 mod bytes;
 mod cuts;
 mod tokens;

@@ -1,4 +1,6 @@
 // Formula text: the rule of a formula read from its words.
+#![tactic(auto)]
+
 mod events;
 mod leaves;
 mod lines;

@@ -1,4 +1,6 @@
 // Rows, refusals, names, and the hosts that hold a table's rows.
+#![tactic(auto)]
+
 mod bays;
 mod hosts;
 mod names;

@@ -1,4 +1,6 @@
 // What a book's formulas are worth over a whole path, in memory that never grows.
+#![tactic(auto)]
+
 mod calls;
 mod clauses;
 mod following;

@@ -1,5 +1,7 @@
 // A book of formulas with every core and 0 to 3 `after`s, watched over a small path on both scales side by side. What it writes is compared
 // with `stdout`, which `expected.py` works out from the definitions alone.
+#![tactic(auto)]
+
 use ftpl::books::Book;
 use ftpl::formulas::{Core, Event, EventKind, EventList, Formula, Leaf, Leaves, Slot, Trace};
 use ftpl::properties::{Binder, Property, Quantifier, Test, Tests, Variable, VariableKind};

@@ -1,4 +1,6 @@
 // Scales: yes and no, distances, and two scales side by side.
+#![tactic(auto)]
+
 mod beside;
 mod distances;
 mod scales;

@@ -1,5 +1,7 @@
 // The sled's program: reads a rack's table from a text, puts it into the sled's packed image through its bay,
 // says whether it is lawful, reads it back and writes it as text again.
+#![tactic(auto)]
+
 use anyhow::anyhow;
 use host::{Bay, Host, Packed, Refusal, Rule, row_at};
 use std::{env, fs};

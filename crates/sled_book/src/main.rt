@@ -1,6 +1,8 @@
 // The sled's program: reads a rack's table and its book from two texts, the table into the sled's packed image through its bay;
 // says whether the table is lawful and writes it as text again; then what each property of the book is worth on the table,
 // and whether the standing conditions hold.
+#![tactic(auto)]
+
 use anyhow::anyhow;
 use ftpl::books::Book;
 use ftpl::values::{broken_condition, property_value};

@@ -1,4 +1,6 @@
 // The rules of a lawful table, and the steps that change one, over any host.
+#![tactic(auto)]
+
 mod breaches;
 mod edge_facts;
 mod places;

@@ -1,5 +1,7 @@
 // Reads table texts, one to a line of a file with `\n` for a newline and `\0` for a zero byte, and says what was found in each:
 // how many rows, or the line, the byte and the word that is wrong.
+#![tactic(auto)]
+
 use anyhow::anyhow;
 use std::alloc::{AllocError, Global};
 use std::{env, fs};

@@ -1,4 +1,6 @@
 // Table text: reading, writing, and the first wrong word.
+#![tactic(auto)]
+
 mod lines;
 mod numerals;
 mod puts;

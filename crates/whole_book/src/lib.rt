@@ -1,4 +1,6 @@
 // Book text: a whole book read from text, and a table and a book read together.
+#![tactic(auto)]
+
 mod bodies;
 mod books;
 mod both;
