@@ -11,9 +11,9 @@ returns-in-default c = λ z f e. c.in-default.ensures.cases.0 (subst IsUtf8 (sym
 pub returns-in-default-parse : goal.returns-in-default-parse
 returns-in-default-parse c = λ z f e. c.in-default-parse.not-Ok z (parse-signed_decimal w32 z c.in-Ok.text.now c.parse.result f (omega (arith, f.sfits)) (c.in-Ok.ensures.cases.0 ∙ e) c.parse.ensures.value.0)
 
-pub returns-else-is-written : goal.returns-else-is-written
-returns-else-is-written c = λ z f e.
+pub returns-else-is_written : goal.returns-else-is_written
+returns-else-is_written c = λ z f e.
     let r = parse-signed_decimal w32 z c.in-Ok.text.now c.parse.result f (omega (arith, f.sfits)) (c.in-Ok.ensures.cases.0 ∙ e) c.parse.ensures.value.0 in
     let same : c.in-Ok-parse.z ≡ z = cc in
     let back = to_z-of_z w32 c.in-Ok-parse.z (subst (SFits w32) (sym same) f) ∙ same in
-    true≢false (sym (c.is-written.ensures.1 (e ∙ ap signed_decimal (sym back))) ∙ c.if-is-written.false)
+    true≢false (sym (c.is_written.ensures.1 (e ∙ ap signed_decimal (sym back))) ∙ c.if-is_written.false)

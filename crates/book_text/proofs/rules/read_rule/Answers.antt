@@ -7,52 +7,52 @@ use Rattle.book_text.proofs.Binding.{not_opened, opening_inside, first_failed, o
 use Rattle.book_text.proofs.rules.read_rule.Goals as goal
 
 pub returns-in-default : goal.returns-in-default
-returns-in-default c = not_opened (words_of c.args.tokens.now) c.args.at (omega (arith, as_long c.args.tokens.now, c.requires)) (ap opening_of (sym c.word-at.ensures) ∙ sym c.in-default.ensures)
+returns-in-default c = not_opened (words_of c.args.tokens.now) c.args.at (omega (arith, as_long c.args.tokens.now, c.requires)) (ap opening_of (sym c.word_at.ensures) ∙ sym c.in-default.ensures)
 
-pub bound-kind-requires : goal.bound-kind-requires
-bound-kind-requires c =
-    let i = opening_inside (words_of c.args.tokens.now) c.args.at c.in-Some.quantifier (ap opening_of (sym c.word-at.ensures) ∙ sym c.in-Some.ensures) in
+pub bound_kind-requires : goal.bound_kind-requires
+bound_kind-requires c =
+    let i = opening_inside (words_of c.args.tokens.now) c.args.at c.in-Some.quantifier (ap opening_of (sym c.word_at.ensures) ∙ sym c.in-Some.ensures) in
     omega (arith, i, as_long c.args.tokens.now)
 
 pub returns-in-Err : goal.returns-in-Err
 returns-in-Err c =
-    first_failed (words_of c.args.tokens.now) c.args.at c.in-Some.quantifier (ap opening_of (sym c.word-at.ensures) ∙ sym c.in-Some.ensures) c.in-Err.wrong (c.in-Err.ensures None refl)
+    first_failed (words_of c.args.tokens.now) c.args.at c.in-Some.quantifier (ap opening_of (sym c.word_at.ensures) ∙ sym c.in-Some.ensures) c.in-Err.wrong (c.in-Err.ensures None refl)
 
-pub rule-tests-requires : goal.rule-tests-requires
-rule-tests-requires c = (omega (arith, (c.in-Ok.ensures None refl).inside, as_long c.args.tokens.now), λ _. ap quantifier_of (sym c.word-at-2.ensures) ∙ sym c.in-default-as-quantifier.ensures)
+pub rule_tests-requires : goal.rule_tests-requires
+rule_tests-requires c = (omega (arith, (c.in-Ok.ensures None refl).inside, as_long c.args.tokens.now), λ _. ap quantifier_of (sym c.word_at-2.ensures) ∙ sym c.in-default-as_quantifier.ensures)
 
-pub returns-in-default-as-quantifier : goal.returns-in-default-as-quantifier
-returns-in-default-as-quantifier c =
+pub returns-in-default-as_quantifier : goal.returns-in-default-as_quantifier
+returns-in-default-as_quantifier c =
     let s = words_of c.args.tokens.now in
-    let e = ap opening_of (sym c.word-at.ensures) ∙ sym c.in-Some.ensures in
+    let e = ap opening_of (sym c.word_at.ensures) ∙ sym c.in-Some.ensures in
     let w = c.in-Ok.ensures None refl in
-    MatchResult-weaker c.rule-tests.result c.rule-tests.ensures (λ x h. one_taken s c.args.at c.in-Some.quantifier e c.in-Ok.kind w x h) (λ r h. one_failed s c.args.at c.in-Some.quantifier e c.in-Ok.kind w r h)
+    MatchResult-weaker c.rule_tests.result c.rule_tests.ensures (λ x h. one_taken s c.args.at c.in-Some.quantifier e c.in-Ok.kind w x h) (λ r h. one_failed s c.args.at c.in-Some.quantifier e c.in-Ok.kind w r h)
 
-pub bound-kind-requires-2 : goal.bound-kind-requires-2
-bound-kind-requires-2 c =
+pub bound_kind-requires-2 : goal.bound_kind-requires-2
+bound_kind-requires-2 c =
     let s = words_of c.args.tokens.now in
-    let e = ap opening_of (sym c.word-at.ensures) ∙ sym c.in-Some.ensures in
+    let e = ap opening_of (sym c.word_at.ensures) ∙ sym c.in-Some.ensures in
     let w = c.in-Ok.ensures None refl in
-    let i = second_inside s c.args.at c.in-Some.quantifier e c.in-Ok.kind w c.in-Some-as-quantifier.second (ap quantifier_of (sym c.word-at-2.ensures) ∙ sym c.in-Some-as-quantifier.ensures) in
+    let i = second_inside s c.args.at c.in-Some.quantifier e c.in-Ok.kind w c.in-Some-as_quantifier.second (ap quantifier_of (sym c.word_at-2.ensures) ∙ sym c.in-Some-as_quantifier.ensures) in
     omega (arith, i, as_long c.args.tokens.now)
 
-pub rule-tests-requires-in-Ok-bound-kind : goal.rule-tests-requires-in-Ok-bound-kind
-rule-tests-requires-in-Ok-bound-kind c = (omega (arith, (c.in-Ok-bound-kind.ensures (Some c.in-Ok.kind) refl).inside, as_long c.args.tokens.now), λ e. let z : ◌≡◌ {A = ℕ} 0 1 = cc in absurd (omega arith))
+pub rule_tests-requires-in-Ok-bound_kind : goal.rule_tests-requires-in-Ok-bound_kind
+rule_tests-requires-in-Ok-bound_kind c = (omega (arith, (c.in-Ok-bound_kind.ensures (Some c.in-Ok.kind) refl).inside, as_long c.args.tokens.now), λ e. let z : ◌≡◌ {A = ℕ} 0 1 = cc in absurd (omega arith))
 
-pub returns-in-Err-bound-kind : goal.returns-in-Err-bound-kind
-returns-in-Err-bound-kind c =
+pub returns-in-Err-bound_kind : goal.returns-in-Err-bound_kind
+returns-in-Err-bound_kind c =
     let s = words_of c.args.tokens.now in
-    let e = ap opening_of (sym c.word-at.ensures) ∙ sym c.in-Some.ensures in
+    let e = ap opening_of (sym c.word_at.ensures) ∙ sym c.in-Some.ensures in
     let w = c.in-Ok.ensures None refl in
-    second_failed s c.args.at c.in-Some.quantifier e c.in-Ok.kind w c.in-Some-as-quantifier.second (ap quantifier_of (sym c.word-at-2.ensures) ∙ sym c.in-Some-as-quantifier.ensures) c.in-Err-bound-kind.wrong (c.in-Err-bound-kind.ensures (Some c.in-Ok.kind) refl)
+    second_failed s c.args.at c.in-Some.quantifier e c.in-Ok.kind w c.in-Some-as_quantifier.second (ap quantifier_of (sym c.word_at-2.ensures) ∙ sym c.in-Some-as_quantifier.ensures) c.in-Err-bound_kind.wrong (c.in-Err-bound_kind.ensures (Some c.in-Ok.kind) refl)
 
-pub returns-in-Ok-bound-kind : goal.returns-in-Ok-bound-kind
-returns-in-Ok-bound-kind c =
+pub returns-in-Ok-bound_kind : goal.returns-in-Ok-bound_kind
+returns-in-Ok-bound_kind c =
     let s = words_of c.args.tokens.now in
-    let e = ap opening_of (sym c.word-at.ensures) ∙ sym c.in-Some.ensures in
+    let e = ap opening_of (sym c.word_at.ensures) ∙ sym c.in-Some.ensures in
     let w = c.in-Ok.ensures None refl in
-    let e₂ = ap quantifier_of (sym c.word-at-2.ensures) ∙ sym c.in-Some-as-quantifier.ensures in
-    let w₂ = c.in-Ok-bound-kind.ensures (Some c.in-Ok.kind) refl in
-    MatchResult-weaker c.rule-tests-in-Ok-bound-kind.result c.rule-tests-in-Ok-bound-kind.ensures
-    (λ x h. two_taken s c.args.at c.in-Some.quantifier e c.in-Ok.kind w c.in-Some-as-quantifier.second e₂ c.in-Ok-bound-kind.kind w₂ x h)
-    (λ r h. two_failed s c.args.at c.in-Some.quantifier e c.in-Ok.kind w c.in-Some-as-quantifier.second e₂ c.in-Ok-bound-kind.kind w₂ r h)
+    let e₂ = ap quantifier_of (sym c.word_at-2.ensures) ∙ sym c.in-Some-as_quantifier.ensures in
+    let w₂ = c.in-Ok-bound_kind.ensures (Some c.in-Ok.kind) refl in
+    MatchResult-weaker c.rule_tests-in-Ok-bound_kind.result c.rule_tests-in-Ok-bound_kind.ensures
+    (λ x h. two_taken s c.args.at c.in-Some.quantifier e c.in-Ok.kind w c.in-Some-as_quantifier.second e₂ c.in-Ok-bound_kind.kind w₂ x h)
+    (λ r h. two_failed s c.args.at c.in-Some.quantifier e c.in-Ok.kind w c.in-Some-as_quantifier.second e₂ c.in-Ok-bound_kind.kind w₂ r h)

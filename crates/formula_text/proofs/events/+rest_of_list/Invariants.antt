@@ -2,5 +2,5 @@ use Rattle.std.proofs.Common.{◌-◌, length}
 use Rattle.formula_text.proofs.events.+rest_of_list.Given as goal
 
 -- the words that are left fall
-abbrev pub decreases-rest-of-list : goal.decreases-rest-of-list
-decreases-rest-of-list l = length l.tokens.now - l.at
+abbrev pub decreases-rest_of_list : goal.decreases-rest_of_list
+decreases-rest_of_list l = length l.tokens.now - l.at

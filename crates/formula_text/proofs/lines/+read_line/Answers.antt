@@ -18,33 +18,33 @@ returns-in-Err t c = line_failed c.args.most c.args.lists (rule_words c.args.tok
 pub returns-then-lists-eq3 : goal.returns-then-lists-eq3
 returns-then-lists-eq3 t c =
     let s = rule_words c.args.tokens.now in
-    let q = same_true (get_or s c.args.at []) (codes "after") (ap (λ z. bytes_eq z (codes "after")) (sym c.rule-word.ensures) ∙ sym c.if-not-is.ensures) in
+    let q = same_true (get_or s c.args.at []) (codes "after") (ap (λ z. bytes_eq z (codes "after")) (sym c.rule_word.ensures) ∙ sym c.if-not-is.ensures) in
     let m : c.args.lists ≡ 3 = omega arith in
     subst (λ z. Stuck c.args.most (Lines c.args.most z) (ready z) s c.args.at c.args.at) (sym m) (too_many c.args.most s c.args.at c.requires.1.0 (omega (arith, rule_long c.args.tokens.now, c.requires.0)) q)
 
-pub event-list-requires : goal.event-list-requires
-event-list-requires t c =
+pub event_list-requires : goal.event_list-requires
+event_list-requires t c =
     let s = rule_words c.args.tokens.now in
-    let q = same_true (get_or s c.args.at []) (codes "after") (ap (λ z. bytes_eq z (codes "after")) (sym c.rule-word.ensures) ∙ sym c.if-not-is.ensures) in
+    let q = same_true (get_or s c.args.at []) (codes "after") (ap (λ z. bytes_eq z (codes "after")) (sym c.rule_word.ensures) ∙ sym c.if-not-is.ensures) in
     omega (arith, begun s c.args.at 97 (codes "fter") q, rule_long c.args.tokens.now)
 
-pub returns-in-Err-event-list : goal.returns-in-Err-event-list
-returns-in-Err-event-list t c =
+pub returns-in-Err-event_list : goal.returns-in-Err-event_list
+returns-in-Err-event_list t c =
     let s = rule_words c.args.tokens.now in
-    let q = same_true (get_or s c.args.at []) (codes "after") (ap (λ z. bytes_eq z (codes "after")) (sym c.rule-word.ensures) ∙ sym c.if-not-is.ensures) in
-    lists_failed c.args.most c.args.lists (rule_words c.args.tokens.now) c.args.at q (omega arith) c.requires.1.0 c.in-Err-event-list.wrong (c.in-Err-event-list.ensures c.args.most (ready (c.args.lists + 1)))
+    let q = same_true (get_or s c.args.at []) (codes "after") (ap (λ z. bytes_eq z (codes "after")) (sym c.rule_word.ensures) ∙ sym c.if-not-is.ensures) in
+    lists_failed c.args.most c.args.lists (rule_words c.args.tokens.now) c.args.at q (omega arith) c.requires.1.0 c.in-Err-event_list.wrong (c.in-Err-event_list.ensures c.args.most (ready (c.args.lists + 1)))
 
-pub read-line-requires : goal.read-line-requires
-read-line-requires t c = (omega arith, (omega (arith, (c.in-Ok-event-list.ensures c.args.most (ready (c.args.lists + 1))).inside, rule_long c.args.tokens.now), (c.requires.1.0, omega arith)))
+pub read_line-requires : goal.read_line-requires
+read_line-requires t c = (omega arith, (omega (arith, (c.in-Ok-event_list.ensures c.args.most (ready (c.args.lists + 1))).inside, rule_long c.args.tokens.now), (c.requires.1.0, omega arith)))
 
-pub returns-in-Err-read-line : goal.returns-in-Err-read-line
-returns-in-Err-read-line t c =
+pub returns-in-Err-read_line : goal.returns-in-Err-read_line
+returns-in-Err-read_line t c =
     let s = rule_words c.args.tokens.now in
-    let q = same_true (get_or s c.args.at []) (codes "after") (ap (λ z. bytes_eq z (codes "after")) (sym c.rule-word.ensures) ∙ sym c.if-not-is.ensures) in
-    rest_failed c.args.most c.args.lists (rule_words c.args.tokens.now) c.args.at q (omega arith) c.in-Ok-event-list.events (c.in-Ok-event-list.ensures c.args.most (ready (c.args.lists + 1))) c.in-Err-read-line.stop c.in-Err-read-line.ensures
+    let q = same_true (get_or s c.args.at []) (codes "after") (ap (λ z. bytes_eq z (codes "after")) (sym c.rule_word.ensures) ∙ sym c.if-not-is.ensures) in
+    rest_failed c.args.most c.args.lists (rule_words c.args.tokens.now) c.args.at q (omega arith) c.in-Ok-event_list.events (c.in-Ok-event_list.ensures c.args.most (ready (c.args.lists + 1))) c.in-Err-read_line.stop c.in-Err-read_line.ensures
 
 pub returns : goal.returns
 returns t c =
     let s = rule_words c.args.tokens.now in
-    let q = same_true (get_or s c.args.at []) (codes "after") (ap (λ z. bytes_eq z (codes "after")) (sym c.rule-word.ensures) ∙ sym c.if-not-is.ensures) in
-    rest_took c.args.most c.args.lists (rule_words c.args.tokens.now) c.args.at q (omega arith) c.in-Ok-event-list.events (c.in-Ok-event-list.ensures c.args.most (ready (c.args.lists + 1))) c.in-Ok-read-line.rest c.in-Ok-read-line.ensures
+    let q = same_true (get_or s c.args.at []) (codes "after") (ap (λ z. bytes_eq z (codes "after")) (sym c.rule_word.ensures) ∙ sym c.if-not-is.ensures) in
+    rest_took c.args.most c.args.lists (rule_words c.args.tokens.now) c.args.at q (omega arith) c.in-Ok-event_list.events (c.in-Ok-event_list.ensures c.args.most (ready (c.args.lists + 1))) c.in-Ok-read_line.rest c.in-Ok-read_line.ensures

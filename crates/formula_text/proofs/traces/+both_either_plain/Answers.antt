@@ -20,8 +20,8 @@ both-returns-in-Err t c = λ b.
 pub both-returns-then-not-joins : goal.both-returns-then-not-joins
 both-returns-then-not-joins t c = λ b. took_alone ands c.in-Ok.part (c.in-Ok.ensures b) (sym c.if-not-joins.ensures)
 
-pub both-overflow-add-behind : goal.both-overflow-add-behind
-both-overflow-add-behind t c =
+pub both-overflow_add-behind : goal.both-overflow_add-behind
+both-overflow_add-behind t c =
     let j = joins_by ands (rule_words c.args.tokens.now) c.in-Ok.part.place.at c.in-Ok.part.place.count (sym c.if-not-joins.ensures) in
     let h : c.in-Ok.part.place.at < length c.args.tokens.now = omega (arith, j.inside, rule_long c.args.tokens.now) in
     search rules
@@ -36,10 +36,10 @@ both-returns-in-Err-both t c = λ b.
     let j = joins_by ands (rule_words c.args.tokens.now) c.in-Ok.part.place.at c.in-Ok.part.place.count (sym c.if-not-joins.ensures) in
     failed_join ands c.in-Ok.part (c.in-Ok.ensures b) j c.requires.1.1.1 b c.in-Err-both.stop (c.in-Err-both.ensures b)
 
-pub both-returns-in-Ok-both-of : goal.both-returns-in-Ok-both-of
-both-returns-in-Ok-both-of t c = λ b.
+pub both-returns-in-Ok-both_of : goal.both-returns-in-Ok-both_of
+both-returns-in-Ok-both_of t c = λ b.
     let j = joins_by ands (rule_words c.args.tokens.now) c.in-Ok.part.place.at c.in-Ok.part.place.count (sym c.if-not-joins.ensures) in
-    took_join ands c.in-Ok.part (c.in-Ok.ensures b) j c.in-Ok-both.part c.in-Ok-both-of.trace (c.in-Ok-both.ensures b) c.in-Ok-both-of.ensures
+    took_join ands c.in-Ok.part (c.in-Ok.ensures b) j c.in-Ok-both.part c.in-Ok-both_of.trace (c.in-Ok-both.ensures b) c.in-Ok-both_of.ensures
 
 pub either-returns-in-Err : goal.either-returns-in-Err
 either-returns-in-Err t c = λ b.
@@ -49,8 +49,8 @@ either-returns-in-Err t c = λ b.
 pub either-returns-then-not-joins : goal.either-returns-then-not-joins
 either-returns-then-not-joins t c = λ b. took_alone ors c.in-Ok.part (c.in-Ok.ensures b) (sym c.if-not-joins.ensures)
 
-pub either-overflow-add-behind : goal.either-overflow-add-behind
-either-overflow-add-behind t c =
+pub either-overflow_add-behind : goal.either-overflow_add-behind
+either-overflow_add-behind t c =
     let j = joins_by ors (rule_words c.args.tokens.now) c.in-Ok.part.place.at c.in-Ok.part.place.count (sym c.if-not-joins.ensures) in
     let h : c.in-Ok.part.place.at < length c.args.tokens.now = omega (arith, j.inside, rule_long c.args.tokens.now) in
     search rules
@@ -65,18 +65,18 @@ either-returns-in-Err-either t c = λ b.
     let j = joins_by ors (rule_words c.args.tokens.now) c.in-Ok.part.place.at c.in-Ok.part.place.count (sym c.if-not-joins.ensures) in
     failed_join ors c.in-Ok.part (c.in-Ok.ensures b) j c.requires.1.1.1 b c.in-Err-either.stop (c.in-Err-either.ensures b)
 
-pub either-returns-in-Ok-either-of : goal.either-returns-in-Ok-either-of
-either-returns-in-Ok-either-of t c = λ b.
+pub either-returns-in-Ok-either_of : goal.either-returns-in-Ok-either_of
+either-returns-in-Ok-either_of t c = λ b.
     let j = joins_by ors (rule_words c.args.tokens.now) c.in-Ok.part.place.at c.in-Ok.part.place.count (sym c.if-not-joins.ensures) in
-    took_join ors c.in-Ok.part (c.in-Ok.ensures b) j c.in-Ok-either.part c.in-Ok-either-of.trace (c.in-Ok-either.ensures b) c.in-Ok-either-of.ensures
+    took_join ors c.in-Ok.part (c.in-Ok.ensures b) j c.in-Ok-either.part c.in-Ok-either_of.trace (c.in-Ok-either.ensures b) c.in-Ok-either_of.ensures
 
 pub plain-returns-then-not-is : goal.plain-returns-then-not-is
-plain-returns-then-not-is t c = λ b. c.one-leaf.ensures c.args.depth (8 - c.args.depth) b
+plain-returns-then-not-is t c = λ b. c.one_leaf.ensures c.args.depth (8 - c.args.depth) b
 
 pub plain-returns-then-depth-eq0 : goal.plain-returns-then-depth-eq0
 plain-returns-then-depth-eq0 t c = λ b.
     let s = rule_words c.args.tokens.now in
-    let q = same_true (get_or s c.args.place.at []) (codes "(") (ap (λ z. bytes_eq z (codes "(")) (sym c.rule-word.ensures) ∙ sym c.if-not-is.ensures) in
+    let q = same_true (get_or s c.args.place.at []) (codes "(") (ap (λ z. bytes_eq z (codes "(")) (sym c.rule_word.ensures) ∙ sym c.if-not-is.ensures) in
     let k = c.args.place.count in
     let m : c.args.depth ≡ 0 = omega arith in
     subst (λ z. Stuck c.args.most (Tracks c.args.most plain z k) (tracing b (8 - z) k) s c.args.place.at c.args.place.at) (sym m) (too_deep c.args.most b k s c.args.place.at c.requires.1.0 c.requires.1.1.0 (omega (arith, rule_long c.args.tokens.now, c.requires.0)) q)
@@ -84,31 +84,31 @@ plain-returns-then-depth-eq0 t c = λ b.
 pub plain-either-requires : goal.plain-either-requires
 plain-either-requires t c =
     let s = rule_words c.args.tokens.now in
-    let q = same_true (get_or s c.args.place.at []) (codes "(") (ap (λ z. bytes_eq z (codes "(")) (sym c.rule-word.ensures) ∙ sym c.if-not-is.ensures) in
+    let q = same_true (get_or s c.args.place.at []) (codes "(") (ap (λ z. bytes_eq z (codes "(")) (sym c.rule_word.ensures) ∙ sym c.if-not-is.ensures) in
     (omega arith, (omega (arith, begun s c.args.place.at 40 [] q, rule_long c.args.tokens.now), (c.requires.1.0, (c.requires.1.1.0, omega arith))))
 
 pub plain-returns-in-Err : goal.plain-returns-in-Err
 plain-returns-in-Err t c = λ b.
     let s = rule_words c.args.tokens.now in
-    let q = same_true (get_or s c.args.place.at []) (codes "(") (ap (λ z. bytes_eq z (codes "(")) (sym c.rule-word.ensures) ∙ sym c.if-not-is.ensures) in
+    let q = same_true (get_or s c.args.place.at []) (codes "(") (ap (λ z. bytes_eq z (codes "(")) (sym c.rule_word.ensures) ∙ sym c.if-not-is.ensures) in
     failed_group c.args.most c.args.depth s c.args.place (omega arith) c.requires.1.1.1 q b c.in-Err.stop (c.in-Err.ensures b)
 
 pub plain-returns-then-not-is-2 : goal.plain-returns-then-not-is-2
 plain-returns-then-not-is-2 t c = λ b.
     let s = rule_words c.args.tokens.now in
-    let q = same_true (get_or s c.args.place.at []) (codes "(") (ap (λ z. bytes_eq z (codes "(")) (sym c.rule-word.ensures) ∙ sym c.if-not-is.ensures) in
-    not_closed c.args.most c.args.depth s c.args.place (omega arith) c.requires.1.1.1 q c.in-Ok.part (c.in-Ok.ensures b) b (ap (λ z. bytes_eq z (codes ")")) (sym c.rule-word-2.ensures) ∙ sym c.if-not-is-2.ensures)
+    let q = same_true (get_or s c.args.place.at []) (codes "(") (ap (λ z. bytes_eq z (codes "(")) (sym c.rule_word.ensures) ∙ sym c.if-not-is.ensures) in
+    not_closed c.args.most c.args.depth s c.args.place (omega arith) c.requires.1.1.1 q c.in-Ok.part (c.in-Ok.ensures b) b (ap (λ z. bytes_eq z (codes ")")) (sym c.rule_word-2.ensures) ∙ sym c.if-not-is-2.ensures)
 
-pub plain-overflow-add-result : goal.plain-overflow-add-result
-plain-overflow-add-result t c =
+pub plain-overflow_add-result : goal.plain-overflow_add-result
+plain-overflow_add-result t c =
     let s = rule_words c.args.tokens.now in
-    let z = same_true (get_or s c.in-Ok.part.place.at []) (codes ")") (ap (λ z. bytes_eq z (codes ")")) (sym c.rule-word-2.ensures) ∙ sym c.if-not-is-2.ensures) in
+    let z = same_true (get_or s c.in-Ok.part.place.at []) (codes ")") (ap (λ z. bytes_eq z (codes ")")) (sym c.rule_word-2.ensures) ∙ sym c.if-not-is-2.ensures) in
     let h : c.in-Ok.part.place.at < length c.args.tokens.now = omega (arith, begun s c.in-Ok.part.place.at 41 [] z, rule_long c.args.tokens.now) in
     search rules
 
 pub plain-returns : goal.plain-returns
 plain-returns t c = λ b.
     let s = rule_words c.args.tokens.now in
-    let q = same_true (get_or s c.args.place.at []) (codes "(") (ap (λ z. bytes_eq z (codes "(")) (sym c.rule-word.ensures) ∙ sym c.if-not-is.ensures) in
-    let z = same_true (get_or s c.in-Ok.part.place.at []) (codes ")") (ap (λ z. bytes_eq z (codes ")")) (sym c.rule-word-2.ensures) ∙ sym c.if-not-is-2.ensures) in
+    let q = same_true (get_or s c.args.place.at []) (codes "(") (ap (λ z. bytes_eq z (codes "(")) (sym c.rule_word.ensures) ∙ sym c.if-not-is.ensures) in
+    let z = same_true (get_or s c.in-Ok.part.place.at []) (codes ")") (ap (λ z. bytes_eq z (codes ")")) (sym c.rule_word-2.ensures) ∙ sym c.if-not-is-2.ensures) in
     took_group c.args.most c.args.depth s c.args.place (omega arith) c.requires.1.1.1 q c.in-Ok.part (c.in-Ok.ensures b) z

@@ -7,15 +7,15 @@ use Rattle.formula_text.proofs.traces.one_leaf.Goals as goal
 
 pub returns-in-default : goal.returns-in-default
 returns-in-default c = λ d e b.
-    no_leaf c.args.most d e b (rule_words c.args.tokens.now) c.args.place c.requires.1.0 c.requires.1.1.0 (omega (arith, rule_long c.args.tokens.now, c.requires.0)) c.requires.1.1.1 (ap leaf_word_of (sym c.rule-word.ensures) ∙ sym c.in-default.ensures)
+    no_leaf c.args.most d e b (rule_words c.args.tokens.now) c.args.place c.requires.1.0 c.requires.1.1.0 (omega (arith, rule_long c.args.tokens.now, c.requires.0)) c.requires.1.1.1 (ap leaf_word_of (sym c.rule_word.ensures) ∙ sym c.in-default.ensures)
 
-pub returns-in-default-natural-between : goal.returns-in-default-natural-between
-returns-in-default-natural-between c = λ d e b.
-    no_number c.args.most d e b (rule_words c.args.tokens.now) c.args.place c.requires.1.0 c.requires.1.1.0 c.in-Some.word (ap leaf_word_of (sym c.rule-word.ensures) ∙ sym c.in-Some.ensures)
-    (λ m h l q. c.in-default-natural-between.ensures m h l (c.rule-word-2.ensures ∙ q))
+pub returns-in-default-natural_between : goal.returns-in-default-natural_between
+returns-in-default-natural_between c = λ d e b.
+    no_number c.args.most d e b (rule_words c.args.tokens.now) c.args.place c.requires.1.0 c.requires.1.1.0 c.in-Some.word (ap leaf_word_of (sym c.rule_word.ensures) ∙ sym c.in-Some.ensures)
+    (λ m h l q. c.in-default-natural_between.ensures m h l (c.rule_word-2.ensures ∙ q))
 
 pub returns : goal.returns
 returns c = λ d e b.
-    let r = c.in-Some-natural-between.ensures in
-    took_leaf c.args.most d e b (rule_words c.args.tokens.now) c.args.place c.requires.1.0 c.requires.1.1.0 c.in-Some.word (ap leaf_word_of (sym c.rule-word.ensures) ∙ sym c.in-Some.ensures)
-    (omega arith) c.in-Some-natural-between.number r.0 r.1 (sym c.rule-word-2.ensures ∙ r.2) c.slot-at.result c.put-leaf.result c.slot-at.ensures (c.put-leaf.ensures ∙ ap (put_leaf c.args.place.leaves c.args.place.count) c.leaf-of.ensures)
+    let r = c.in-Some-natural_between.ensures in
+    took_leaf c.args.most d e b (rule_words c.args.tokens.now) c.args.place c.requires.1.0 c.requires.1.1.0 c.in-Some.word (ap leaf_word_of (sym c.rule_word.ensures) ∙ sym c.in-Some.ensures)
+    (omega arith) c.in-Some-natural_between.number r.0 r.1 (sym c.rule_word-2.ensures ∙ r.2) c.slot_at.result c.put_leaf.result c.slot_at.ensures (c.put_leaf.ensures ∙ ap (put_leaf c.args.place.leaves c.args.place.count) c.leaf_of.ensures)

@@ -5,7 +5,7 @@ use Rattle.ftpl.proofs.values.numbered_value.Goals.{else-count-ge1-via-then-coun
 
 pub returns-then-count-properties : goal.returns-then-count-properties
 returns-then-count-properties g c =
-    c.property-value.ensures
+    c.property_value.ensures
     ∙ sym (numbered_some g.S.Scale.ops (g.H.Host.rows c.args.host.now) c.args.properties.now c.args.number c.index-properties-count.result (omega arith) (omega arith) (omega arith) c.index-properties-count.is)
 
 pub returns-else-count-ge1 : goal.returns-else-count-ge1

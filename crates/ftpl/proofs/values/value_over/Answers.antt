@@ -3,7 +3,7 @@ use Rattle.host.specs.Tables.{row_at}
 use Rattle.ftpl.specs.Properties.{kind_number, tests_value}
 use Rattle.ftpl.proofs.Quantified.{going_taken, going_left, going_all}
 use Rattle.ftpl.proofs.values.value_over.Goals as goal
-use Rattle.ftpl.proofs.values.value_over.Goals.{then-is-of-kind, else-is-of-kind}
+use Rattle.ftpl.proofs.values.value_over.Goals.{then-is_of_kind, else-is_of_kind}
 
 pub loop-w-preserved : goal.loop-w-preserved
 loop-w-preserved g c =
@@ -13,11 +13,11 @@ loop-w-preserved g c =
     let test = λ (p : ℕ). eqb (row_at t p).kind (kind_number b.kind) in
     let f = λ (w : ℕ). tests_value s t c.args.v w c.args.tests.now in
     let here : c.loop-w.w < length t = omega arith in
-    elim c.if-is-of-kind.branch [
-      | then-is-of-kind w ↦
-          going_taken g.S.Scale.laws b.quantifier test f (length t) c.loop-w.w c.loop-w.total c.if-is-of-kind.total _ here (sym c.is-of-kind.ensures ∙ w.if-is-of-kind.true) c.loop-w.invariant w.tests-value.ensures (w.total-is ∙ w.joined-total.ensures)
-      | else-is-of-kind w ↦
-          going_left g.S.Scale.laws b.quantifier test f (length t) c.loop-w.w c.loop-w.total c.if-is-of-kind.total here (sym c.is-of-kind.ensures ∙ w.if-is-of-kind.false) c.loop-w.invariant w.total-is
+    elim c.if-is_of_kind.branch [
+      | then-is_of_kind w ↦
+          going_taken g.S.Scale.laws b.quantifier test f (length t) c.loop-w.w c.loop-w.total c.if-is_of_kind.total _ here (sym c.is_of_kind.ensures ∙ w.if-is_of_kind.true) c.loop-w.invariant w.tests_value.ensures (w.total-is ∙ w.joined-total.ensures)
+      | else-is_of_kind w ↦
+          going_left g.S.Scale.laws b.quantifier test f (length t) c.loop-w.w c.loop-w.total c.if-is_of_kind.total here (sym c.is_of_kind.ensures ∙ w.if-is_of_kind.false) c.loop-w.invariant w.total-is
     ]
 
 pub returns : goal.returns

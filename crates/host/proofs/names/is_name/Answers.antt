@@ -9,7 +9,7 @@ from_start n m bs e = let z : n - 0 ≡ n = omega arith in ap (λ k. take k bs) 
 pub returns-in-Some : goal.returns-in-Some
 returns-in-Some c =
     let n = c.args.name in
-    let u = c.unpack-name-len in
+    let u = c.unpack_name-len in
     let same = from_start u.result.1 n u.result.0 u.ensures.part in
     let (form, e) = c.in-Some.ensures in
     (λ t. (_, form, sym (eqb-true _ n t) ∙ e), λ q. eq-eqb _ n (e ∙ ap packed same ∙ sym (name_form n q).1))
@@ -17,6 +17,6 @@ returns-in-Some c =
 pub returns-in-None : goal.returns-in-None
 returns-in-None c =
     let n = c.args.name in
-    let u = c.unpack-name-len in
+    let u = c.unpack_name-len in
     let same = from_start u.result.1 n u.result.0 u.ensures.part in
     (λ t. absurd (true≢false (sym t)), λ q. absurd (c.in-None.ensures (subst NameForm (sym same) (name_form n q).0)))

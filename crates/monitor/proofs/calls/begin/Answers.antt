@@ -11,19 +11,19 @@ returns g c =
     let book = c.args.book.now in
     let n = vec_len book.formulas in
     let old = c.args.board.now in
-    let mid = c.start-all.new.board in
-    let new = c.advance-all.new.board in
+    let mid = c.start_all.new.board in
+    let new = c.advance_all.new.board in
     let x : Position = record { rows = g.H.Host.rows c.args.host.now; event = None } in
-    let known : room c.len.result ≤ length old = leb-true _ _ (sym c.if-not-has-room.ensures) in
+    let known : room c.len.result ≤ length old = leb-true _ _ (sym c.if-not-has_room.ensures) in
     let fits : room n ≤ length old = omega arith in
     let count : c.len-2.result ≡ n = c.len-2.ensures in
-    let kept : drop (40 * n) mid ≡ drop (40 * n) old = ap (λ k. drop (40 * k) mid) (sym count) ∙ c.start-all.ensures.beyond ∙ ap (λ k. drop (40 * k) old) count in
+    let kept : drop (40 * n) mid ≡ drop (40 * n) old = ap (λ k. drop (40 * k) mid) (sym count) ∙ c.start_all.ensures.beyond ∙ ap (λ k. drop (40 * k) old) count in
     record {
       outcome = record {
         small = λ h. absurd (omega arith);
-        tidy = λ h. (refl, tidy_since s n old mid new kept (tidy_by s _ n mid new c.as-slice-2.ensures.len c.advance-all.ensures.tidy));
+        tidy = λ h. (refl, tidy_since s n old mid new kept (tidy_by s _ n mid new c.as_slice-2.ensures.len c.advance_all.ensures.tidy));
       };
       watches = λ h.
-          watches_first s book x mid new (λ i l. c.start-all.ensures.started i (omega arith)) (sym (ap length c.as-slice-2.ensures.value) ∙ c.as-slice-2.ensures.len)
-          (by_book s _ (vec_items book.formulas) _ (vec_items book.properties) x mid new c.as-slice-2.ensures.value c.as-slice.ensures.value c.advance-all.ensures.stepped);
+          watches_first s book x mid new (λ i l. c.start_all.ensures.started i (omega arith)) (sym (ap length c.as_slice-2.ensures.value) ∙ c.as_slice-2.ensures.len)
+          (by_book s _ (vec_items book.formulas) _ (vec_items book.properties) x mid new c.as_slice-2.ensures.value c.as_slice.ensures.value c.advance_all.ensures.stepped);
     }

@@ -14,15 +14,15 @@ returns g c =
     let fs = vec_items book.formulas in
     let ps = vec_items book.properties in
     let f = c.index-formulas-count.result in
-    let known : room c.len.result ≤ length c.args.board.now = leb-true _ _ (sym c.if-not-has-room.ensures) in
+    let known : room c.len.result ≤ length c.args.board.now = leb-true _ _ (sym c.if-not-has_room.ensures) in
     let fits : room (vec_len book.formulas) ≤ length c.args.board.now = omega arith in
-    let long : length fs ≡ vec_len book.formulas = sym (ap length c.as-slice-formulas.ensures.value) ∙ c.as-slice-formulas.ensures.len in
-    let stands : f ≡ get_or fs (n - 1) f = c.index-formulas-count.is ∙ ap (λ (gs : List Formula). get_or gs (n - 1) f) c.as-slice-formulas.ensures.value in
+    let long : length fs ≡ vec_len book.formulas = sym (ap length c.as_slice-formulas.ensures.value) ∙ c.as_slice-formulas.ensures.len in
+    let stands : f ≡ get_or fs (n - 1) f = c.index-formulas-count.is ∙ ap (λ (gs : List Formula). get_or gs (n - 1) f) c.as_slice-formulas.ensures.value in
     let some : 1 ≤ n = omega arith in
     let few : n ≤ length fs = omega arith in
     record {
       small = λ h. absurd (omega arith);
       none = λ h no. absurd (no some (omega arith));
       value = λ h a b path l w.
-          ap Ok (c.show-at.ensures ∙ ap (shown s f) (w.each (n - 1) f (record { inside = omega arith; is = stands })) ∙ watched_value s g.S.Scale.laws ps f path l ∙ sym (shown_some s ps fs path n f some few stands));
+          ap Ok (c.show_at.ensures ∙ ap (shown s f) (w.each (n - 1) f (record { inside = omega arith; is = stands })) ∙ watched_value s g.S.Scale.laws ps f path l ∙ sym (shown_some s ps fs path n f some few stands));
     }

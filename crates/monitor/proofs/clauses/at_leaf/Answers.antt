@@ -6,7 +6,7 @@ use Rattle.monitor.proofs.clauses.at_leaf.Goals as goal
 pub loop-c-preserved : goal.loop-c-preserved
 loop-c-preserved g c =
     let s = g.S.Scale.ops in
-    done_more s c.loop-c.r c.loop-c.c _ (λ (i : Set). clauses s c.args.w (with c.args.j i)) c.loop-c-test.true c.loop-c.invariant c.get-with.ensures
+    done_more s c.loop-c.r c.loop-c.c _ (λ (i : Set). clauses s c.args.w (with c.args.j i)) c.loop-c-test.true c.loop-c.invariant c.get_with.ensures
 
 pub returns : goal.returns
 returns g c = done_all g.S.Scale.ops c.loop-c.r c.loop-c.c _ c.loop-c-test.false c.loop-c.invariant

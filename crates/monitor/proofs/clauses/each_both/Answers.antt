@@ -6,7 +6,7 @@ use Rattle.monitor.proofs.clauses.each_both.Goals as goal
 pub loop-c-preserved : goal.loop-c-preserved
 loop-c-preserved g c =
     let s = g.S.Scale.ops in
-    done_more s c.loop-c.r c.loop-c.c _ (λ (i : Set). s.both (clauses s c.args.a i) (clauses s c.args.b i)) c.loop-c-test.true c.loop-c.invariant c.both-at.ensures
+    done_more s c.loop-c.r c.loop-c.c _ (λ (i : Set). s.both (clauses s c.args.a i) (clauses s c.args.b i)) c.loop-c-test.true c.loop-c.invariant c.both_at.ensures
 
 pub returns : goal.returns
 returns g c = done_all g.S.Scale.ops c.loop-c.r c.loop-c.c _ c.loop-c-test.false c.loop-c.invariant

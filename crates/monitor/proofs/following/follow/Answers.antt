@@ -15,14 +15,14 @@ loop-i-preserved g c =
     let x = c.index-formulas-i.result in
     let old = c.args.board.now in
     let now = c.loop-i.board in
-    let new = c.follow-at.new.board in
+    let new = c.follow_at.new.board in
     let go = λ (f : Formula). step_with s f (values_in s (working (length fs) old) f.leaves) (λ e. holds e c.args.event) in
     let kept = c.loop-i.invariant.todo in
     gone_more (Going s fs go old) old now new n c.loop-i.invariant
     (going_here s go old (viewed s (part n new)) x c.index-formulas-i.is
-    (c.follow-at.ensures.part ∙ ap₂ (λ (ws ps : List g.row.S.Denot). step_with s x (values_in s ws x.leaves) (λ e. holds e c.args.event) (viewed s ps)) (working_todo old now n (length fs) (omega arith) kept) (part_todo old now n kept)))
-    c.follow-at.ensures.before
-    c.follow-at.ensures.beyond
+    (c.follow_at.ensures.part ∙ ap₂ (λ (ws ps : List g.row.S.Denot). step_with s x (values_in s ws x.leaves) (λ e. holds e c.args.event) (viewed s ps)) (working_todo old now n (length fs) (omega arith) kept) (part_todo old now n kept)))
+    c.follow_at.ensures.before
+    c.follow_at.ensures.beyond
 
 pub returns : goal.returns
 returns g c =

@@ -15,7 +15,7 @@ returns g c =
     let ys = c.advance.new.cells in
     let same : between a (a + 40) (put_mid a ((a + 40) - a) xs ys) ≡ ys = search (rules, overwrites) in
     record {
-      part = ap (viewed s) same ∙ c.advance.ensures.step ∙ ap (λ v. step_with s c.args.f.now v (λ e. holds e c.args.event) (viewed s (between a (a + 40) xs))) c.values-of-values.ensures;
+      part = ap (viewed s) same ∙ c.advance.ensures.step ∙ ap (λ v. step_with s c.args.f.now v (λ e. holds e c.args.event) (viewed s (between a (a + 40) xs))) c.values_of-values.ensures;
       before = search (rules, overwrites);
       beyond = search (rules, overwrites);
     }

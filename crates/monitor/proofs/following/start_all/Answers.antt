@@ -7,7 +7,7 @@ use Rattle.monitor.proofs.following.start_all.Goals as goal
 pub loop-i-preserved : goal.loop-i-preserved
 loop-i-preserved g c =
     let s = g.S.Scale.ops in
-    gone_more (λ k p. viewed s p ≡ begin s) c.args.board.now c.loop-i.board c.start-at.new.board c.loop-i.i c.loop-i.invariant c.start-at.ensures.part c.start-at.ensures.before c.start-at.ensures.beyond
+    gone_more (λ k p. viewed s p ≡ begin s) c.args.board.now c.loop-i.board c.start_at.new.board c.loop-i.i c.loop-i.invariant c.start_at.ensures.part c.start_at.ensures.before c.start_at.ensures.beyond
 
 pub returns : goal.returns
 returns g c =

@@ -10,11 +10,11 @@ returns g c =
     let xs = c.args.cells.now in
     let inside : 20 < length xs = omega arith in
     record {
-      step = state_made s c.args.f.now c.args.values (λ e. holds e c.args.event) xs c.go-cells.new.cells c.put-locks.new.cells
+      step = state_made s c.args.f.now c.args.values (λ e. holds e c.args.event) xs c.go_cells.new.cells c.put_locks.new.cells
           (get_or_read xs 17 c.index-cells-17.result (omega arith) c.index-cells-17.is s.top)
           (get_or_read xs 18 c.index-cells-18.result (omega arith) c.index-cells-18.is s.top)
           (get_or_read xs 19 c.index-cells-19.result (omega arith) c.index-cells-19.is s.top)
           (get_or_read xs 20 c.index-cells-20.result inside c.index-cells-20.is s.top)
-          c.pass-h1.ensures c.pass-h2.ensures c.pass-h3.ensures c.go-cells.ensures.made c.hold.ensures c.hold-2.ensures c.hold-3.ensures c.put-locks.ensures;
-      rest = λ k h. c.put-locks.ensures.above k h ∙ c.go-cells.ensures.rest k (omega arith);
+          c.pass-h1.ensures c.pass-h2.ensures c.pass-h3.ensures c.go_cells.ensures.made c.hold.ensures c.hold-2.ensures c.hold-3.ensures c.put_locks.ensures;
+      rest = λ k h. c.put_locks.ensures.above k h ∙ c.go_cells.ensures.rest k (omega arith);
     }

@@ -11,15 +11,15 @@ load-w-requires g c =
     let m = mul-le-mul_right z le in
     (omega (arith, mul-one z), le)
 
-pub happen-kept-requires : goal.happen-kept-requires
-happen-kept-requires g c =
+pub happen_kept-requires : goal.happen_kept-requires
+happen_kept-requires g c =
     let z = prog.Memory.size (denote.Memory.lone g.row.S.mir) in
     let le : 16 ≤ length c.args.cells.now = omega arith in
     let m = mul-le-mul_right z le in
     omega (arith, mul-one z)
 
-pub go-row-requires : goal.go-row-requires
-go-row-requires g c =
+pub go_row-requires : goal.go_row-requires
+go_row-requires g c =
     let z = prog.Memory.size (denote.Memory.lone g.row.S.mir) in
     let le : 16 ≤ length c.args.cells.now = omega arith in
     let m = mul-le-mul_right z le in
@@ -39,6 +39,6 @@ returns g c =
     let inside : 16 < length xs = omega arith in
     record {
       made = cells_made s c.args.f.now.leaves c.args.f.now.core c.args.h c.args.values (λ e. holds e c.args.event) xs c.store.new.cells
-          inside c.load-w.ensures (get_or_read xs 16 c.index-cells-16.result inside c.index-cells-16.is s.top) c.happen-kept.ensures c.go-row.ensures c.store.ensures.row (c.store.ensures.rest 16 (omega arith));
-      rest = λ k h. let ne : k ≢ 16 = omega arith in c.store.ensures.rest k (omega arith) ∙ get_or-set_other xs 16 k c.happen-kept.result s.top ne;
+          inside c.load-w.ensures (get_or_read xs 16 c.index-cells-16.result inside c.index-cells-16.is s.top) c.happen_kept.ensures c.go_row.ensures c.store.ensures.row (c.store.ensures.rest 16 (omega arith));
+      rest = λ k h. let ne : k ≢ 16 = omega arith in c.store.ensures.rest k (omega arith) ∙ get_or-set_other xs 16 k c.happen_kept.result s.top ne;
     }

@@ -2,83 +2,83 @@ use Rattle.table.specs.Refusals.{refusal}
 use Rattle.table.proofs.Telling.{here, past, no_more}
 use Rattle.table.proofs.refusing.refusal_of.Goals as goal
 
-pub returns-then-is-beyond : goal.returns-then-is-beyond
+pub returns-then-is_beyond : goal.returns-then-is_beyond
 unfolding refusal
-returns-then-is-beyond g c =
-    here _ _ _ c.is-beyond.result c.is-beyond.ensures c.if-is-beyond.true
+returns-then-is_beyond g c =
+    here _ _ _ c.is_beyond.result c.is_beyond.ensures c.if-is_beyond.true
 
-pub returns-then-has-wrong-rows : goal.returns-then-has-wrong-rows
+pub returns-then-has_wrong_rows : goal.returns-then-has_wrong_rows
 unfolding refusal
-returns-then-has-wrong-rows g c =
-    past _ _ _ c.is-beyond.result c.is-beyond.ensures c.if-is-beyond.false _
-    (here _ _ _ c.has-wrong-rows.result c.has-wrong-rows.ensures c.if-has-wrong-rows.true)
+returns-then-has_wrong_rows g c =
+    past _ _ _ c.is_beyond.result c.is_beyond.ensures c.if-is_beyond.false _
+    (here _ _ _ c.has_wrong_rows.result c.has_wrong_rows.ensures c.if-has_wrong_rows.true)
 
-pub returns-then-is-out-of-range : goal.returns-then-is-out-of-range
+pub returns-then-is_out_of_range : goal.returns-then-is_out_of_range
 unfolding refusal
-returns-then-is-out-of-range g c =
-    past _ _ _ c.is-beyond.result c.is-beyond.ensures c.if-is-beyond.false _
-    (past _ _ _ c.has-wrong-rows.result c.has-wrong-rows.ensures c.if-has-wrong-rows.false _
-    (here _ _ _ c.is-out-of-range.result c.is-out-of-range.ensures c.if-is-out-of-range.true))
+returns-then-is_out_of_range g c =
+    past _ _ _ c.is_beyond.result c.is_beyond.ensures c.if-is_beyond.false _
+    (past _ _ _ c.has_wrong_rows.result c.has_wrong_rows.ensures c.if-has_wrong_rows.false _
+    (here _ _ _ c.is_out_of_range.result c.is_out_of_range.ensures c.if-is_out_of_range.true))
 
-pub returns-then-is-tied : goal.returns-then-is-tied
+pub returns-then-is_tied : goal.returns-then-is_tied
 unfolding refusal
-returns-then-is-tied g c =
-    past _ _ _ c.is-beyond.result c.is-beyond.ensures c.if-is-beyond.false _
-    (past _ _ _ c.has-wrong-rows.result c.has-wrong-rows.ensures c.if-has-wrong-rows.false _
-    (past _ _ _ c.is-out-of-range.result c.is-out-of-range.ensures c.if-is-out-of-range.false _
-    (here _ _ _ c.is-tied.result c.is-tied.ensures c.if-is-tied.true)))
+returns-then-is_tied g c =
+    past _ _ _ c.is_beyond.result c.is_beyond.ensures c.if-is_beyond.false _
+    (past _ _ _ c.has_wrong_rows.result c.has_wrong_rows.ensures c.if-has_wrong_rows.false _
+    (past _ _ _ c.is_out_of_range.result c.is_out_of_range.ensures c.if-is_out_of_range.false _
+    (here _ _ _ c.is_tied.result c.is_tied.ensures c.if-is_tied.true)))
 
-pub returns-then-is-running : goal.returns-then-is-running
+pub returns-then-is_running : goal.returns-then-is_running
 unfolding refusal
-returns-then-is-running g c =
-    past _ _ _ c.is-beyond.result c.is-beyond.ensures c.if-is-beyond.false _
-    (past _ _ _ c.has-wrong-rows.result c.has-wrong-rows.ensures c.if-has-wrong-rows.false _
-    (past _ _ _ c.is-out-of-range.result c.is-out-of-range.ensures c.if-is-out-of-range.false _
-    (past _ _ _ c.is-tied.result c.is-tied.ensures c.if-is-tied.false _
-    (here _ _ _ c.is-running.result c.is-running.ensures c.if-is-running.true))))
+returns-then-is_running g c =
+    past _ _ _ c.is_beyond.result c.is_beyond.ensures c.if-is_beyond.false _
+    (past _ _ _ c.has_wrong_rows.result c.has_wrong_rows.ensures c.if-has_wrong_rows.false _
+    (past _ _ _ c.is_out_of_range.result c.is_out_of_range.ensures c.if-is_out_of_range.false _
+    (past _ _ _ c.is_tied.result c.is_tied.ensures c.if-is_tied.false _
+    (here _ _ _ c.is_running.result c.is_running.ensures c.if-is_running.true))))
 
-pub returns-then-is-in-use : goal.returns-then-is-in-use
+pub returns-then-is_in_use : goal.returns-then-is_in_use
 unfolding refusal
-returns-then-is-in-use g c =
-    past _ _ _ c.is-beyond.result c.is-beyond.ensures c.if-is-beyond.false _
-    (past _ _ _ c.has-wrong-rows.result c.has-wrong-rows.ensures c.if-has-wrong-rows.false _
-    (past _ _ _ c.is-out-of-range.result c.is-out-of-range.ensures c.if-is-out-of-range.false _
-    (past _ _ _ c.is-tied.result c.is-tied.ensures c.if-is-tied.false _
-    (past _ _ _ c.is-running.result c.is-running.ensures c.if-is-running.false _
-    (here _ _ _ c.is-in-use.result c.is-in-use.ensures c.if-is-in-use.true)))))
+returns-then-is_in_use g c =
+    past _ _ _ c.is_beyond.result c.is_beyond.ensures c.if-is_beyond.false _
+    (past _ _ _ c.has_wrong_rows.result c.has_wrong_rows.ensures c.if-has_wrong_rows.false _
+    (past _ _ _ c.is_out_of_range.result c.is_out_of_range.ensures c.if-is_out_of_range.false _
+    (past _ _ _ c.is_tied.result c.is_tied.ensures c.if-is_tied.false _
+    (past _ _ _ c.is_running.result c.is_running.ensures c.if-is_running.false _
+    (here _ _ _ c.is_in_use.result c.is_in_use.ensures c.if-is_in_use.true)))))
 
-pub returns-then-makes-loop : goal.returns-then-makes-loop
+pub returns-then-makes_loop : goal.returns-then-makes_loop
 unfolding refusal
-returns-then-makes-loop g c =
-    past _ _ _ c.is-beyond.result c.is-beyond.ensures c.if-is-beyond.false _
-    (past _ _ _ c.has-wrong-rows.result c.has-wrong-rows.ensures c.if-has-wrong-rows.false _
-    (past _ _ _ c.is-out-of-range.result c.is-out-of-range.ensures c.if-is-out-of-range.false _
-    (past _ _ _ c.is-tied.result c.is-tied.ensures c.if-is-tied.false _
-    (past _ _ _ c.is-running.result c.is-running.ensures c.if-is-running.false _
-    (past _ _ _ c.is-in-use.result c.is-in-use.ensures c.if-is-in-use.false _
-    (here _ _ _ c.makes-loop.result c.makes-loop.ensures c.if-makes-loop.true))))))
+returns-then-makes_loop g c =
+    past _ _ _ c.is_beyond.result c.is_beyond.ensures c.if-is_beyond.false _
+    (past _ _ _ c.has_wrong_rows.result c.has_wrong_rows.ensures c.if-has_wrong_rows.false _
+    (past _ _ _ c.is_out_of_range.result c.is_out_of_range.ensures c.if-is_out_of_range.false _
+    (past _ _ _ c.is_tied.result c.is_tied.ensures c.if-is_tied.false _
+    (past _ _ _ c.is_running.result c.is_running.ensures c.if-is_running.false _
+    (past _ _ _ c.is_in_use.result c.is_in_use.ensures c.if-is_in_use.false _
+    (here _ _ _ c.makes_loop.result c.makes_loop.ensures c.if-makes_loop.true))))))
 
-pub returns-then-is-taken : goal.returns-then-is-taken
+pub returns-then-is_taken : goal.returns-then-is_taken
 unfolding refusal
-returns-then-is-taken g c =
-    past _ _ _ c.is-beyond.result c.is-beyond.ensures c.if-is-beyond.false _
-    (past _ _ _ c.has-wrong-rows.result c.has-wrong-rows.ensures c.if-has-wrong-rows.false _
-    (past _ _ _ c.is-out-of-range.result c.is-out-of-range.ensures c.if-is-out-of-range.false _
-    (past _ _ _ c.is-tied.result c.is-tied.ensures c.if-is-tied.false _
-    (past _ _ _ c.is-running.result c.is-running.ensures c.if-is-running.false _
-    (past _ _ _ c.is-in-use.result c.is-in-use.ensures c.if-is-in-use.false _
-    (past _ _ _ c.makes-loop.result c.makes-loop.ensures c.if-makes-loop.false _
-    (here _ _ _ c.is-taken.result c.is-taken.ensures c.if-is-taken.true)))))))
+returns-then-is_taken g c =
+    past _ _ _ c.is_beyond.result c.is_beyond.ensures c.if-is_beyond.false _
+    (past _ _ _ c.has_wrong_rows.result c.has_wrong_rows.ensures c.if-has_wrong_rows.false _
+    (past _ _ _ c.is_out_of_range.result c.is_out_of_range.ensures c.if-is_out_of_range.false _
+    (past _ _ _ c.is_tied.result c.is_tied.ensures c.if-is_tied.false _
+    (past _ _ _ c.is_running.result c.is_running.ensures c.if-is_running.false _
+    (past _ _ _ c.is_in_use.result c.is_in_use.ensures c.if-is_in_use.false _
+    (past _ _ _ c.makes_loop.result c.makes_loop.ensures c.if-makes_loop.false _
+    (here _ _ _ c.is_taken.result c.is_taken.ensures c.if-is_taken.true)))))))
 
-pub returns-else-is-taken : goal.returns-else-is-taken
+pub returns-else-is_taken : goal.returns-else-is_taken
 unfolding refusal
-returns-else-is-taken g c =
-    past _ _ _ c.is-beyond.result c.is-beyond.ensures c.if-is-beyond.false _
-    (past _ _ _ c.has-wrong-rows.result c.has-wrong-rows.ensures c.if-has-wrong-rows.false _
-    (past _ _ _ c.is-out-of-range.result c.is-out-of-range.ensures c.if-is-out-of-range.false _
-    (past _ _ _ c.is-tied.result c.is-tied.ensures c.if-is-tied.false _
-    (past _ _ _ c.is-running.result c.is-running.ensures c.if-is-running.false _
-    (past _ _ _ c.is-in-use.result c.is-in-use.ensures c.if-is-in-use.false _
-    (past _ _ _ c.makes-loop.result c.makes-loop.ensures c.if-makes-loop.false _
-    (past _ _ _ c.is-taken.result c.is-taken.ensures c.if-is-taken.false _
+returns-else-is_taken g c =
+    past _ _ _ c.is_beyond.result c.is_beyond.ensures c.if-is_beyond.false _
+    (past _ _ _ c.has_wrong_rows.result c.has_wrong_rows.ensures c.if-has_wrong_rows.false _
+    (past _ _ _ c.is_out_of_range.result c.is_out_of_range.ensures c.if-is_out_of_range.false _
+    (past _ _ _ c.is_tied.result c.is_tied.ensures c.if-is_tied.false _
+    (past _ _ _ c.is_running.result c.is_running.ensures c.if-is_running.false _
+    (past _ _ _ c.is_in_use.result c.is_in_use.ensures c.if-is_in_use.false _
+    (past _ _ _ c.makes_loop.result c.makes_loop.ensures c.if-makes_loop.false _
+    (past _ _ _ c.is_taken.result c.is_taken.ensures c.if-is_taken.false _
     no_more)))))))

@@ -12,9 +12,9 @@ returns-in-None g c =
     let u = g.H.Host.rows c.write.new.self in
     let s = c.args.step in
     let e : None ≡ refusal t s = c.in-None.ensures in
-    let there = c.target-of-place in
+    let there = c.target_of-place in
     let w = c.write.ensures in
-    let same : u ≡ effect t s = written_effect t u s there.result c.row-at.result c.row-after-row.result there.ensures c.row-at.ensures c.row-after-row.ensures w.rows in
+    let same : u ≡ effect t s = written_effect t u s there.result c.row_at.result c.row_after-row.result there.ensures c.row_at.ensures c.row_after-row.ensures w.rows in
     let r = done t u s c.write.result e (subst (λ p. Writes t p c.write.result) there.ensures w.told) same in
     record {
       answer = r.0;

@@ -4,13 +4,13 @@ use Rattle.std.proofs.lemmas.Bool.{cases_lt, cases_eq, not-false}
 use Rattle.host.specs.Tables.{empty_row, row_at}
 use Rattle.table_text.proofs.puts.is_within.Goals as goal
 
-pub returns-then-is-filled : goal.returns-then-is-filled
-returns-then-is-filled c =
+pub returns-then-is_filled : goal.returns-then-is_filled
+returns-then-is_filled c =
     let t = c.args.table.now in
     let p = c.loop-place.place in
     let d = get_or_default t p _ empty_row (omega arith) in (
       λ e. absurd (true≢false (sym e)),
-      λ within. absurd (true≢false (sym c.if-is-filled.true ∙ c.is-filled.ensures ∙ ap not (eq-eqb _ 0 (ap (λ r. r.kind) d ∙ within p (omega arith))))),
+      λ within. absurd (true≢false (sym c.if-is_filled.true ∙ c.is_filled.ensures ∙ ap not (eq-eqb _ 0 (ap (λ r. r.kind) d ∙ within p (omega arith))))),
     )
 
 pub loop-place-preserved : goal.loop-place-preserved
@@ -19,7 +19,7 @@ loop-place-preserved c = λ p low high.
     let i = c.loop-place.place in
     let d = get_or_default t i _ empty_row (omega arith) in
     ⊎_elim
-    (λ (e : p ≡ i). ap (λ k. (row_at t k).kind) e ∙ sym (ap (λ r. r.kind) d) ∙ eqb-true _ 0 (not-false _ (sym c.is-filled.ensures ∙ c.if-is-filled.false)))
+    (λ (e : p ≡ i). ap (λ k. (row_at t k).kind) e ∙ sym (ap (λ r. r.kind) d) ∙ eqb-true _ 0 (not-false _ (sym c.is_filled.ensures ∙ c.if-is_filled.false)))
     (λ (ne : p ≡ i → ⊥). c.loop-place.invariant p low (omega arith))
     (cases_eq p i)
 

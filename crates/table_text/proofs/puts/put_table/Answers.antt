@@ -13,15 +13,15 @@ loop-place-preserved g c =
     let u = g.H.Host.rows c.args.host.now in
     let i = c.loop-place.place in
     let w = c.write.ensures in (
-      w.rows ∙ (λ j. set (c.loop-place.invariant.0 j) i (c.row-or-empty.ensures j)) ∙ fill_more (row_at t) u i (omega (arith, c.capacity-capacity.ensures)),
+      w.rows ∙ (λ j. set (c.loop-place.invariant.0 j) i (c.row_or_empty.ensures j)) ∙ fill_more (row_at t) u i (omega (arith, c.capacity-capacity.ensures)),
       g.H.Host.onward c.args.host.now c.loop-place.host c.write.new.self c.loop-place.invariant.1 w.held,
     )
 
-pub returns-then-not-is-within : goal.returns-then-not-is-within
-returns-then-not-is-within g c =
+pub returns-then-not-is_within : goal.returns-then-not-is_within
+returns-then-not-is_within g c =
     let t = c.args.table.now in
     record {
-      rows = (refl, (λ within. true≢false (sym (c.is-within.ensures.1 (subst (Within t) (sym c.capacity-capacity.ensures) within)) ∙ c.if-not-is-within.true)), refl);
+      rows = (refl, (λ within. true≢false (sym (c.is_within.ensures.1 (subst (Within t) (sym c.capacity-capacity.ensures) within)) ∙ c.if-not-is_within.true)), refl);
       text = tt;
       held = g.H.Host.still c.args.host.now;
     }
@@ -32,7 +32,7 @@ returns g c =
     let u = g.H.Host.rows c.args.host.now in
     let i = c.loop-place.place in
     let n : i ≡ length u = omega (arith, c.capacity-capacity.ensures, c.loop-place.auto.place-end) in
-    let within = subst (Within t) c.capacity-capacity.ensures (c.is-within.ensures.0 c.if-not-is-within.false) in
+    let within = subst (Within t) c.capacity-capacity.ensures (c.is_within.ensures.0 c.if-not-is_within.false) in
     let rows = c.loop-place.invariant.0 ∙ ap (λ s. map (row_at t) (range_with_len 0 i) ++ s) (drop_all i u (omega (arith, n))) ∙ append-nil (map (row_at t) (range_with_len 0 i)) ∙ ap (λ k. map (row_at t) (range_with_len 0 k)) n in
     record {
       rows = (within, rows);

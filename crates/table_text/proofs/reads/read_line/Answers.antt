@@ -9,11 +9,11 @@ use Rattle.table_text.proofs.reads.read_line.Goals as goal
 
 pub returns-then-next-gt254 : goal.returns-then-next-gt254
 returns-then-next-gt254 c =
-    let w = c.word-end-end.ensures in
-    none_left c.args.next c.args.rest.now c.word-end-end.result (omega arith) w.within.1 w.word w.ended
+    let w = c.word_end-end.ensures in
+    none_left c.args.next c.args.rest.now c.word_end-end.result (omega arith) w.within.1 w.word w.ended
 
-pub read-word-requires : goal.read-word-requires
-read-word-requires c = record {
+pub read_word-requires : goal.read_word-requires
+read_word-requires c = record {
   within = c.loop-key.invariant.1;
   fits = c.loop-key.invariant.0;
   begun = c.loop-key.invariant.2 ∙ sym (before_at c.loop-key.line c.loop-key.key-index (omega arith));

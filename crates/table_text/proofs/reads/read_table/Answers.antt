@@ -33,7 +33,7 @@ returns-in-Err c =
     let at = c.loop-at.at in
     let e = c.in-Err.wrong in
     let x = subst (λ y. WrongInLine c.loop-at.next y e) (take_rest s at) c.in-Err.ensures in
-    let w = handed_out s at c.loop-at.table c.loop-at.next e c.wrong-word.result c.loop-at.invariant (omega arith) x (c.wrong-word.ensures (omega (arith, x.inside.0)) (omega (arith, x.inside.1, length-drop at s))) in
+    let w = handed_out s at c.loop-at.table c.loop-at.next e c.wrong_word.result c.loop-at.invariant (omega arith) x (c.wrong_word.ensures (omega (arith, x.inside.0)) (omega (arith, x.inside.1, length-drop at s))) in
     record { answer = w; back = λ t n st q. absurd (no_text_at s _ _ w.first (t, st, q)) }
 
 pub returns : goal.returns

@@ -8,7 +8,7 @@ use Rattle.table_text.proofs.reads.take_value.Goals as goal
 
 pub returns-in-err-taken-3 : goal.returns-in-err-taken-3
 returns-in-err-taken-3 c =
-    rw c.from-residual-in-err-taken-3.ensures (λ l f e. c.in-err-taken-3.ensures (subst NameForm (sym (e ∙ ap (λ k. value_text k l) c.in-Name.is)) (name_form l.row.name f.row.name).0))
+    rw c.from_residual-in-err-taken-3.ensures (λ l f e. c.in-err-taken-3.ensures (subst NameForm (sym (e ∙ ap (λ k. value_text k l) c.in-Name.is)) (name_form l.row.name f.row.name).0))
 
 pub returns-in-ok-taken-2 : goal.returns-in-ok-taken-2
 unfolding word

@@ -13,7 +13,7 @@ returns-in-Some c =
     let s = c.args.text.now in
     let v = c.in-Some.value.now in
     let e = strip_prefix_is Decides-eqb s c.text.result.now (Some c.in-Some.value) c.in-Some.ensures.cases ∙ ap (λ p. p ++ v) c.text.ensures.value in
-    some_weaker c.take-value.result c.take-value.ensures
+    some_weaker c.take_value.result c.take_value.ensures
     (λ none l f q. none l f (append_cancel_left (key_text k) v (value_text k l) (sym e ∙ q)))
     (λ l t. (t.0, e ∙ ap (λ x. key_text k ++ x) t.1, t.2))
 

@@ -8,7 +8,7 @@ use Rattle.table_text.proofs.writes.spell.Goals as goal
 
 pub loop-key-preserved : goal.loop-key-preserved
 loop-key-preserved c =
-    let w = c.put-word-at.ensures in
+    let w = c.put_word-at.ensures in
     (omega arith, omega arith, w.puts.written ∙ ap (λ f. f ++ ended c.args.line (get_or order c.loop-key.key-index Place)) c.loop-key.invariant.2 ∙ sym (joined_more (ended c.args.line) order c.loop-key.key-index Place (omega arith)))
 
 pub returns : goal.returns

@@ -13,7 +13,7 @@ returns-then-is c =
     record {
       ahead = omega arith;
       inside = omega arith;
-      ends = inr (i, c.loop-i.auto.i, omega (arith, as_long c.args.tokens.now), refl, same_true (get_or s i []) (codes "\n") (ap (λ z. bytes_eq z (codes "\n")) (sym c.word-at.ensures) ∙ sym c.if-is.ensures), c.loop-i.invariant);
+      ends = inr (i, c.loop-i.auto.i, omega (arith, as_long c.args.tokens.now), refl, same_true (get_or s i []) (codes "\n") (ap (λ z. bytes_eq z (codes "\n")) (sym c.word_at.ensures) ∙ sym c.if-is.ensures), c.loop-i.invariant);
     }
 
 pub returns : goal.returns

@@ -13,9 +13,9 @@ returns-in-Err c =
 pub returns-in-Condition : goal.returns-in-Condition
 returns-in-Condition c =
     let s = words_of c.args.words.now in
-    subst (λ h. MatchResult c.condition-body.result (λ x. BodySays c.args.count h x s) (λ e. BodyStopped c.args.count h s e)) (sym c.in-Condition.is) (c.condition-body.ensures c.args.count)
+    subst (λ h. MatchResult c.condition_body.result (λ x. BodySays c.args.count h x s) (λ e. BodyStopped c.args.count h s e)) (sym c.in-Condition.is) (c.condition_body.ensures c.args.count)
 
-pub returns-in-Err-read-formula : goal.returns-in-Err-read-formula
-returns-in-Err-read-formula c =
+pub returns-in-Err-read_formula : goal.returns-in-Err-read_formula
+returns-in-Err-read_formula c =
     let s = words_of c.args.words.now in
-    subst (λ h. BodyStopped c.args.count h s c.in-Err-read-formula.stop) (sym c.in-Formula.is) (formula_stopped c.args.count s c.in-Err-read-formula.stop (c.requires c.in-Formula.is) c.in-Err-read-formula.ensures)
+    subst (λ h. BodyStopped c.args.count h s c.in-Err-read_formula.stop) (sym c.in-Formula.is) (formula_stopped c.args.count s c.in-Err-read_formula.stop (c.requires c.in-Formula.is) c.in-Err-read_formula.ensures)

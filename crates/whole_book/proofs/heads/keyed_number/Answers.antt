@@ -11,7 +11,7 @@ returns-in-Some c =
     let k = c.args.key.now in
     let v = c.in-Some.digits.now in
     let e = strip_prefix_is Decides-eqb s k (Some c.in-Some.digits) c.in-Some.ensures.cases in
-    some_weaker c.natural-between.result c.natural-between.ensures
+    some_weaker c.natural_between.result c.natural_between.ensures
     (λ none n l m q. none n l m (append_cancel_left k v (decimal n) (sym e ∙ q)))
     (λ n t. (t.0, t.1, e ∙ ap (λ x. k ++ x) t.2))
 

@@ -15,7 +15,7 @@ returns c =
       | in-Some w ↦
           let x = w.in-Some.ensures.item in
           let n = w.in-Some.number.now in
-          w.last_is ∙ x.1 ∙ ap (λ z. get_or z (length z - 1) n) c.as-slice.ensures.value ∙ sym (last_is 0 (vec_items b.conditions) n (omega (arith, x.3.0, ap length c.as-slice.ensures.value)))
-      | in-None w ↦ w.last_is ∙ sym (last_none 0 (vec_items b.conditions) (omega (arith, w.in-None.ensures.item.3, ap length c.as-slice.ensures.value)))
+          w.last_is ∙ x.1 ∙ ap (λ z. get_or z (length z - 1) n) c.as_slice.ensures.value ∙ sym (last_is 0 (vec_items b.conditions) n (omega (arith, x.3.0, ap length c.as_slice.ensures.value)))
+      | in-None w ↦ w.last_is ∙ sym (last_none 0 (vec_items b.conditions) (omega (arith, w.in-None.ensures.item.3, ap length c.as_slice.ensures.value)))
     ] in
     λ i. record { properties = p i; conditions = k i; last = l i; formulas = f i }

@@ -6,8 +6,8 @@ use Rattle.whole_book.proofs.Adding.{few_listed}
 use Rattle.whole_book.proofs.Stopping.{line_stopped, line_taken}
 use Rattle.whole_book.proofs.lines.next_line.Goals as goal
 
-pub listed-in-requires : goal.listed-in-requires
-listed-in-requires c =
+pub listed_in-requires : goal.listed_in-requires
+listed_in-requires c =
     let b = c.args.book.now in
     let f = few_listed b (take c.args.at (words_of c.args.tokens.now)) c.requires.1 in
     (omega (arith, f.0, b.properties.ok.0), (omega (arith, f.1, b.conditions.ok.0), omega (arith, f.2, b.formulas.ok.0)))
@@ -16,10 +16,10 @@ pub returns-in-Ok-enter : goal.returns-in-Ok-enter
 returns-in-Ok-enter c =
     let s = words_of c.args.tokens.now in
     let h : c.args.at < length s = omega (arith, c.requires.0, as_long c.args.tokens.now) in
-    line_taken c.args.book.now s c.args.at h c.requires.1 c.enter.new.book c.in-Ok.line (subst (λ z. LineTook z s c.args.at c.in-Ok.line) c.listed-in.ensures c.in-Ok.ensures) c.in-Ok-enter.ensures
+    line_taken c.args.book.now s c.args.at h c.requires.1 c.enter.new.book c.in-Ok.line (subst (λ z. LineTook z s c.args.at c.in-Ok.line) c.listed_in.ensures c.in-Ok.ensures) c.in-Ok-enter.ensures
 
 pub returns-in-Err : goal.returns-in-Err
 returns-in-Err c =
     let s = words_of c.args.tokens.now in
     let h : c.args.at < length s = omega (arith, c.requires.0, as_long c.args.tokens.now) in
-    line_stopped c.args.book.now s c.args.at h c.requires.1 c.in-Err.stop (subst (λ z. LineStopped z s c.args.at c.in-Err.stop) c.listed-in.ensures c.in-Err.ensures)
+    line_stopped c.args.book.now s c.args.at h c.requires.1 c.in-Err.stop (subst (λ z. LineStopped z s c.args.at c.in-Err.stop) c.listed_in.ensures c.in-Err.ensures)

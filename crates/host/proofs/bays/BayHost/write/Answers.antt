@@ -4,8 +4,8 @@ use Rattle.host.specs.Bays.{part, Outside, unmoved}
 use Rattle.host.proofs.Parts.{inner, part_set, outside, write_part}
 use Rattle.host.proofs.bays.BayHost.write.Goals as goal
 
-pub overflow-add-self : goal.overflow-add-self
-overflow-add-self g c =
+pub overflow_add-self : goal.overflow_add-self
+overflow_add-self g c =
     let s = c.args.self.now in
     let t = g.H.Host.rows s.below in
     let h : c.args.place < length (part t s.first s.count) = omega (arith, c.capacity.ensures) in
