@@ -72,7 +72,7 @@ fn told<'a>(token: Token<'a>) -> Token<'a>
 fn is_newline(word: &[u8]) -> bool
     ensures { Decides result (word.now ≡ 10 ∷ []) }
 {
-    word == b"\n"
+    word == b"\n".as_slice()
 }
 
 fn lack_at(class: Class, end: usize) -> usize
