@@ -1,7 +1,7 @@
 -- Names: 1 to 8 ASCII letters or digits in 64 bits, the first byte most significant, zero bytes behind.
 use Rattle.std.specs.Prelude.{◌≡◌, ℕ, ◌+◌, ◌*◌, ◌/◌, ◌%◌, ◌<◌, ◌≤◌, Bool, true, cond, ◌&&◌, ◌||◌, List, [], ◌∷◌, length, ◌==◌, nat_le, slice_index, refl}
 use Rattle.std.proofs.Common.{sym, ◌∙◌, eq-eqb, eqb-true}
-use Rattle.std.specs.List.{AllByRecursion as All}
+use Rattle.std.specs.List.{AllByRecursion}
 
 -- an ASCII letter or digit
 abbrev pub letter_or_digit : ℕ → Bool
@@ -11,7 +11,7 @@ letter_or_digit b = (nat_le 48 b && nat_le b 57) || ((nat_le 65 b && nat_le b 90
 pub record NameForm (bs : List ℕ) : Type 0 where
   pub some : 0 < length bs
   pub few : length bs ≤ 8
-  pub plain : All (λ b. letter_or_digit b ≡ true) bs
+  pub plain : AllByRecursion (λ b. letter_or_digit b ≡ true) bs
 
 -- eight bytes in 64 bits, the first most significant; bytes that are lacking count as 0
 abbrev pub packed : List ℕ → ℕ

@@ -3,7 +3,7 @@ use Rattle.std.specs.Prelude.{◌≡◌, ℕ, zero, suc, ◌<◌, Bool, true, fa
 use Rattle.std.proofs.Common.{sym, subst, inl, inr, true≢false, arith}
 use Rattle.std.proofs.Math.Decide.{ℕ_discrete, dec_le, dec_lt}
 use Rattle.std.specs.Int.Signed.{le_z_yes}
-use Rattle.std.specs.List.{AllByRecursion as All}
+use Rattle.std.specs.List.{AllByRecursion}
 use Rattle.host.specs.declared.rows.Row.{Row}
 use Rattle.host.specs.Names.{letter_or_digit, NameForm, IsName, packed, name_bytes, same_name}
 use Rattle.host.proofs.Spelled.{name_form}
@@ -60,7 +60,7 @@ T? false = no (λ h. h)
 pub at_most? : (m n : ℤ) → Dec (m ≤ℤ n)
 at_most? m n = map? le_z_yes (λ h. h.le) (T? (int_le m n))
 
-all? : (P : ℕ → Type 0) → ((b : ℕ) → Dec (P b)) → (bs : List ℕ) → Dec (All P bs)
+all? : (P : ℕ → Type 0) → ((b : ℕ) → Dec (P b)) → (bs : List ℕ) → Dec (AllByRecursion P bs)
 all? P d [] = yes tt
 all? P d (b ∷ bs) = both? (d b) (all? P d bs)
 

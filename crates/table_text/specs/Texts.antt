@@ -1,6 +1,6 @@
 -- Which bytes are table texts, and where the first wrong word of other bytes stands.
 use Rattle.std.specs.Prelude.{◌≡◌, ℕ, ◌+◌, ◌-◌, ◌<◌, ◌≤◌, Bool, true, false, ◌||◌, ◌⊎◌, List, [], ◌∷◌, ◌++◌, length, take, drop, pos, negsuc, ◌≤ℤ◌, count_by, ◌==◌, ◌≢◌, nat_eq, slice_index}
-use Rattle.std.specs.List.{AllByRecursion as All}
+use Rattle.std.specs.List.{AllByRecursion}
 use Rattle.host.specs.Names.{IsName}
 use Rattle.host.specs.Tables.{empty_row}
 use Rattle.host.specs.declared.rows.Row.{Row}
@@ -21,7 +21,7 @@ pub record Sayable (r : Row) : Type 0 where
 -- a table that a text can say: at most 255 rows, each the empty row or one that a line can say
 pub record SayableTable (t : List Row) : Type 0 where
   pub few : length t ≤ 255
-  pub rows : All (λ r. (r ≡ empty_row) ⊎ Sayable r) t
+  pub rows : AllByRecursion (λ r. (r ≡ empty_row) ⊎ Sayable r) t
 
 -- a table text: the written form of such a table
 abbrev pub TableText : List ℕ → Type 0
@@ -33,7 +33,7 @@ parts b = b == 32 || b == 10
 
 -- a word holds neither
 abbrev pub Word : List ℕ → Type 0
-Word w = All (λ b. parts b ≡ false) w
+Word w = AllByRecursion (λ b. parts b ≡ false) w
 
 -- a word ends where nothing follows, or a blank, or a newline
 abbrev pub Ended : List ℕ → Type 0
