@@ -1,7 +1,7 @@
 -- Words and what ends them are cut apart in one way only.
 use Rattle.std.proofs.Common.{◌≡◌, ℕ, suc, ◌^◌, ◌<◌, ◌≤◌, Bool, true, false, cond, not, ◌&&◌, eqb, List, [], ◌∷◌, ◌++◌, ℤ, pos, negsuc, ◌≤ℤ◌, codes, decimal, sym, refl, ◌∙◌, subst, true≢false, append_assoc, arith, ne_eqb}
 use lib.Signed.{mag}
-use Rattle.std.specs.List.{AllByRecursion as All, flat_map}
+use Rattle.std.specs.List.{AllByRecursion, flat_map}
 use Rattle.std.specs.Fmt.{signed_decimal}
 use Rattle.std.proofs.lemmas.Fmt.{decimal_by_steps}
 use Rattle.std.proofs.ByRecursion.{All-append, All-weaker}
@@ -39,8 +39,8 @@ word_from (b ∷ bs) h = let p = and_parts (not (parts b)) (plainly bs) h in (no
 plain_byte : (b : ℕ) → 32 < b → parts b ≡ false
 plain_byte b h = or_from (eqb b 32) (eqb b 10) (ne_eqb b 32 (λ e. omega arith)) (ne_eqb b 10 (λ e. omega arith))
 
-pub digits : (n : ℕ) → n < 2 ^ 64 → All (λ b. (47 < b) × (b < 58)) (decimal n)
-digits = decimal_by_steps (λ n ds. All (λ b. (47 < b) × (b < 58)) ds) (λ n h. ((omega arith, omega arith), tt)) (λ n ds h p. All-append (λ b. (47 < b) × (b < 58)) ds _ p ((omega arith, omega arith), tt))
+pub digits : (n : ℕ) → n < 2 ^ 64 → AllByRecursion (λ b. (47 < b) × (b < 58)) (decimal n)
+digits = decimal_by_steps (λ n ds. AllByRecursion (λ b. (47 < b) × (b < 58)) ds) (λ n h. ((omega arith, omega arith), tt)) (λ n ds h p. All-append (λ b. (47 < b) × (b < 58)) ds _ p ((omega arith, omega arith), tt))
 
 pub word_decimal : (n : ℕ) → n < 2 ^ 64 → Word (decimal n)
 word_decimal n h = All-weaker (λ b. (47 < b) × (b < 58)) (λ b. parts b ≡ false) (λ b p. plain_byte b (omega (arith, p.0))) (decimal n) (digits n h)

@@ -1,6 +1,6 @@
 -- A line, and a whole table, has one text only.
 use Rattle.std.proofs.Common.{◌≡◌, ℕ, zero, suc, ◌^◌, ◌<◌, ◌≤◌, true, cond, eqb, List, [], ◌∷◌, ◌++◌, get_or, ℤ, pos, negsuc, ◌≤ℤ◌, codes, decimal, sym, refl, ap, ◌∙◌, subst, ⊎_elim, append_assoc, arith, eqb-true}
-use Rattle.std.specs.List.{flat_map, AllByRecursion as All}
+use Rattle.std.specs.List.{flat_map, AllByRecursion}
 use Rattle.std.specs.Fmt.{signed_decimal}
 use Rattle.std.proofs.lemmas.Fmt.{decimal_injective}
 use Rattle.std.proofs.lemmas.List.{append_cancel_left}
@@ -28,7 +28,7 @@ kind_back (suc (suc (suc (suc zero)))) h l = refl
 kind_back (suc (suc (suc (suc (suc k))))) h l = absurd (omega arith)
 
 not_none : (n : ℕ) → n < 2 ^ 64 → codes "none" ≡ decimal n → ⊥
-not_none n h e = let d = subst (λ s. All (λ b. (47 < b) × (b < 58)) s) (sym e) (digits n h) in omega (arith, d.0)
+not_none n h e = let d = subst (λ s. AllByRecursion (λ b. (47 < b) × (b < 58)) s) (sym e) (digits n h) in omega (arith, d.0)
 
 place_same : (p q : ℕ) → p ≤ 255 → q ≤ 255 → place_text p ≡ place_text q → p ≡ q
 place_same p q hp hq e =
