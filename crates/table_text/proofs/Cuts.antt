@@ -1,19 +1,18 @@
 -- Words and what ends them are cut apart in one way only.
-use Rattle.std.proofs.Common.{◌≡◌, ℕ, zero, suc, ◌+◌, ◌%◌, ◌^◌, ◌<◌, ◌≤◌, Bool, true, false, cond, not, ◌&&◌, eqb, List, [], ◌∷◌, ◌++◌, length, ℤ, pos, negsuc, ◌≤ℤ◌, codes, decimal, sym, refl, ap, ◌∙◌, subst, true≢false, append_assoc, arith, ne_eqb, eqb-true}
-use borrow.Author.Tests.{eqb-false}
+use Rattle.std.proofs.Common.{◌≡◌, ℕ, suc, ◌^◌, ◌<◌, ◌≤◌, Bool, true, false, cond, not, ◌&&◌, eqb, List, [], ◌∷◌, ◌++◌, ℤ, pos, negsuc, ◌≤ℤ◌, codes, decimal, sym, refl, ◌∙◌, subst, true≢false, append_assoc, arith, ne_eqb}
 use lib.Signed.{mag}
-use Rattle.std.specs.List.{AllByRecursion as All, flat_map}
+use Rattle.std.specs.List.{AllByRecursion, flat_map}
 use Rattle.std.specs.Fmt.{signed_decimal}
 use Rattle.std.proofs.lemmas.Fmt.{decimal_by_steps}
 use Rattle.std.proofs.ByRecursion.{All-append, All-weaker}
-use Rattle.std.proofs.lemmas.Bool.{or_from, and_parts, not-true, cases_Bool}
-use Rattle.host.specs.Names.{IsName, NameForm, letter_or_digit, name_bytes}
+use Rattle.std.proofs.lemmas.Bool.{or_from, and_parts, not-true}
+use Rattle.host.specs.Names.{IsName, letter_or_digit, name_bytes}
 use Rattle.host.proofs.Spelled.{plain_range, name_form}
 use Rattle.table_text.specs.declared.lines.Key.{Key}
 use Rattle.table_text.specs.declared.lines.Key.TheVariants.{Place, Kind, Name, Owner, Link, Up, Lo, Hi, Value}
 use Rattle.table_text.specs.declared.lines.Line.{Line}
 use Rattle.table_text.specs.Lines.{kind_text, place_text, key_text, value_text, ending, word, ended}
-use Rattle.table_text.specs.Texts.{parts, Word, Ended, Sayable}
+use Rattle.table_text.specs.Texts.{parts, Word, Ended}
 use Rattle.table_text.specs.Keys.{Fits}
 use Rattle.table_text.proofs.Spelling.{million_fits}
 
@@ -40,8 +39,8 @@ word_from (b ∷ bs) h = let p = and_parts (not (parts b)) (plainly bs) h in (no
 plain_byte : (b : ℕ) → 32 < b → parts b ≡ false
 plain_byte b h = or_from (eqb b 32) (eqb b 10) (ne_eqb b 32 (λ e. omega arith)) (ne_eqb b 10 (λ e. omega arith))
 
-pub digits : (n : ℕ) → n < 2 ^ 64 → All (λ b. (47 < b) × (b < 58)) (decimal n)
-digits = decimal_by_steps (λ n ds. All (λ b. (47 < b) × (b < 58)) ds) (λ n h. ((omega arith, omega arith), tt)) (λ n ds h p. All-append (λ b. (47 < b) × (b < 58)) ds _ p ((omega arith, omega arith), tt))
+pub digits : (n : ℕ) → n < 2 ^ 64 → AllByRecursion (λ b. (47 < b) × (b < 58)) (decimal n)
+digits = decimal_by_steps (λ n ds. AllByRecursion (λ b. (47 < b) × (b < 58)) ds) (λ n h. ((omega arith, omega arith), tt)) (λ n ds h p. All-append (λ b. (47 < b) × (b < 58)) ds _ p ((omega arith, omega arith), tt))
 
 pub word_decimal : (n : ℕ) → n < 2 ^ 64 → Word (decimal n)
 word_decimal n h = All-weaker (λ b. (47 < b) × (b < 58)) (λ b. parts b ≡ false) (λ b p. plain_byte b (omega (arith, p.0))) (decimal n) (digits n h)

@@ -1,6 +1,6 @@
 -- From a line to the whole text: what was read so far is a table's text, and what is wrong in the rest is wrong in the whole.
-use Rattle.std.proofs.Common.{◌≡◌, ℕ, zero, suc, ◌+◌, ◌-◌, ◌<◌, ◌≤◌, ◌⊎◌, List, [], ◌∷◌, ◌++◌, length, get_or, take, drop, set, replicate, sym, refl, ap, ◌∙◌, subst, inl, inr, ⊎_elim, append_assoc, arith, length-append, length-drop, length-set}
-use Rattle.std.specs.List.{flat_map, AllByRecursion as All}
+use Rattle.std.proofs.Common.{◌≡◌, ℕ, zero, suc, ◌+◌, ◌-◌, ◌<◌, ◌≤◌, ◌⊎◌, List, [], ◌∷◌, ◌++◌, length, take, drop, set, replicate, sym, refl, ap, ◌∙◌, subst, inl, inr, ⊎_elim, append_assoc, arith, length-append, length-drop, length-set}
+use Rattle.std.specs.List.{flat_map, AllByRecursion}
 use Rattle.std.proofs.ByRecursion.{All-set}
 use Rattle.std.proofs.lemmas.List.{append-nil, length-take-le, drop-drop, drop_more, get_or-set_other, nil_from_length, length-replicate, take_all, take-append-drop}
 use Rattle.host.specs.Tables.{empty_row, row_at}
@@ -10,7 +10,7 @@ use Rattle.table_text.specs.declared.words.Span.{Span}
 use Rattle.table_text.specs.Keys.{Fits}
 use Rattle.table_text.specs.Lines.{line_text, lines_of, text_of_table}
 use Rattle.table_text.specs.Reading.{spanned, Begun, WrongInLine}
-use Rattle.table_text.specs.Texts.{Sayable, SayableTable, TableText, Word, Ended, FirstWrong, Stands}
+use Rattle.table_text.specs.Texts.{Sayable, SayableTable, TableText, Ended, FirstWrong, Stands}
 use Rattle.table_text.specs.declared.words.WrongWord.{WrongWord}
 use Rattle.table_text.specs.Marks.{Marks, ReadAs, WrongIn}
 use Rattle.table_text.proofs.Joins.{joined_push, take_split}
@@ -121,7 +121,7 @@ module _ (s : List ℕ) (at : ℕ) (t : List Row) (next : ℕ) (r : ReadSoFar s 
           follow js u after' table.1 lu text ea (λ z. same z ∙ ap (take 1) rest_is);
     }
 
-all_empty : (n : ℕ) → All (λ r. (r ≡ empty_row) ⊎ Sayable r) (replicate n empty_row)
+all_empty : (n : ℕ) → AllByRecursion (λ r. (r ≡ empty_row) ⊎ Sayable r) (replicate n empty_row)
 all_empty zero = tt
 all_empty (suc n) = (inl refl, all_empty n)
 

@@ -1,17 +1,14 @@
 -- Tables by their lines: one line more, and what may follow the lines so far.
-use Rattle.std.proofs.Common.{◌≡◌, ℕ, zero, suc, ◌+◌, ◌<◌, ◌≤◌, Bool, true, false, cond, eqb, ◌⊎◌, List, [], ◌∷◌, ◌++◌, length, get_or, set, sym, refl, ap, ◌∙◌, subst, inl, inr, ⊎_elim, true≢false, append_assoc, arith, length-append, length-set, eq-eqb, ne_eqb, eqb-true}
-use borrow.Author.Tests.{eqb-false}
-use Rattle.std.specs.List.{flat_map, AllByRecursion as All}
-use Rattle.std.proofs.ByRecursion.{All-set, All-get_or}
-use Rattle.std.proofs.lemmas.List.{append-nil, get_or-set_other, get_or-set_same}
-use Rattle.std.proofs.lemmas.Bool.{cases_Bool, cond-true, cond-false, cases_eq}
+use Rattle.std.proofs.Common.{◌≡◌, ℕ, zero, suc, ◌+◌, ◌<◌, ◌≤◌, true, false, eqb, ◌⊎◌, List, [], ◌∷◌, ◌++◌, length, set, sym, refl, ap, ◌∙◌, subst, ⊎_elim, append_assoc, arith, length-append, eq-eqb, ne_eqb}
+use Rattle.std.specs.List.{flat_map, AllByRecursion}
+use Rattle.std.proofs.lemmas.List.{append-nil}
+use Rattle.std.proofs.lemmas.Bool.{cases_Bool, cond-true, cond-false}
 use Rattle.host.specs.Tables.{empty_row, row_at}
 use Rattle.host.specs.declared.rows.Row.{Row}
 use Rattle.table_text.specs.declared.lines.Line.{Line}
-use Rattle.table_text.specs.Lines.{line_text, lines_of, text_of_table, word, ended, order}
+use Rattle.table_text.specs.Lines.{line_text, lines_of, text_of_table, word}
 use Rattle.table_text.specs.Texts.{Sayable, SayableTable}
 use Rattle.table_text.specs.Keys.{Fits}
-use Rattle.table_text.proofs.Joins.{joined_append, joined_push}
 use Rattle.table_text.proofs.Unique.{line_same, rest_same}
 
 -- the place from which on the next line may stand
@@ -63,7 +60,7 @@ after_le p (l ∷ ls) = omega arith
 
 -- every line of a table that can be said fits where those before it end
 abbrev AllRows : List Row → Type 0
-AllRows t = All (λ r. (r ≡ empty_row) ⊎ Sayable r) t
+AllRows t = AllByRecursion (λ r. (r ≡ empty_row) ⊎ Sayable r) t
 
 -- a line of a table, behind some others: it fits
 pub line_behind : (p : ℕ) (t : List Row) (ls rest : List Line) (l : Line) → AllRows t → p + length t ≤ 255 → lines_of p t ≡ ls ++ (l ∷ rest) → Fits (after p ls) l
@@ -90,16 +87,16 @@ line_behind p (r ∷ t) (x ∷ ls) rest l a n e =
     a.0
 
 -- the lines of a table that can be said fit, each
-lines_fit : (p : ℕ) (t : List Row) → AllRows t → p + length t ≤ 255 → All (Fits 0) (lines_of p t)
+lines_fit : (p : ℕ) (t : List Row) → AllRows t → p + length t ≤ 255 → AllByRecursion (Fits 0) (lines_of p t)
 lines_fit p [] a n = tt
 lines_fit p (r ∷ t) a n =
     let ih = lines_fit (p + 1) t a.1 (omega arith) in
     ⊎_elim
-    (λ (b : r ≡ empty_row). subst (All (Fits 0)) (sym (skip p r t (empty_kind r b))) ih)
-    (λ (s : Sayable r). subst (All (Fits 0)) (sym (keep p r t (filled_kind r s))) (record { rises = omega arith; inside = omega arith; row = s }, ih))
+    (λ (b : r ≡ empty_row). subst (AllByRecursion (Fits 0)) (sym (skip p r t (empty_kind r b))) ih)
+    (λ (s : Sayable r). subst (AllByRecursion (Fits 0)) (sym (keep p r t (filled_kind r s))) (record { rises = omega arith; inside = omega arith; row = s }, ih))
     a.0
 
-pub table_lines_fit : (t : List Row) → SayableTable t → All (Fits 0) (lines_of 0 t)
+pub table_lines_fit : (t : List Row) → SayableTable t → AllByRecursion (Fits 0) (lines_of 0 t)
 table_lines_fit t s = lines_fit 0 t s.rows (omega (arith, s.few))
 
 pub some_text : (l : Line) → 0 < length (line_text l)
@@ -111,7 +108,7 @@ no_text [] e = refl
 no_text (l ∷ ls) e = absurd (omega (arith, ap length e, length-append (line_text l) (flat_map line_text ls), some_text l))
 
 -- lines whose text begins with that of others begin with those
-pub texts_split : (ls ks : List Line) (s : List ℕ) → All (Fits 0) ls → All (Fits 0) ks → flat_map line_text ks ≡ flat_map line_text ls ++ s → (js : List Line) × (ks ≡ ls ++ js) × (flat_map line_text js ≡ s)
+pub texts_split : (ls ks : List Line) (s : List ℕ) → AllByRecursion (Fits 0) ls → AllByRecursion (Fits 0) ks → flat_map line_text ks ≡ flat_map line_text ls ++ s → (js : List Line) × (ks ≡ ls ++ js) × (flat_map line_text js ≡ s)
 texts_split [] ks s a b e = (ks, refl, e)
 texts_split (l ∷ ls) [] s a b e = absurd (omega (arith, ap length e, length-append (line_text l ++ flat_map line_text ls) s, length-append (line_text l) (flat_map line_text ls), some_text l))
 texts_split (l ∷ ls) (k ∷ ks) s a b e =

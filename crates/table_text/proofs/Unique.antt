@@ -1,21 +1,18 @@
 -- A line, and a whole table, has one text only.
-use Rattle.std.proofs.Common.{◌≡◌, ℕ, zero, suc, ◌+◌, ◌^◌, ◌<◌, ◌≤◌, Bool, true, false, cond, eqb, ◌⊎◌, List, [], ◌∷◌, ◌++◌, length, get_or, ℤ, pos, negsuc, ◌≤ℤ◌, codes, decimal, sym, refl, ap, ◌∙◌, subst, inl, inr, ⊎_elim, append_assoc, arith, w32, eq-eqb, ne_eqb, eqb-true}
-use borrow.Author.Tests.{eqb-false}
-use Rattle.std.specs.List.{flat_map, AllByRecursion as All}
+use Rattle.std.proofs.Common.{◌≡◌, ℕ, zero, suc, ◌^◌, ◌<◌, ◌≤◌, true, cond, eqb, List, [], ◌∷◌, ◌++◌, get_or, ℤ, pos, negsuc, ◌≤ℤ◌, codes, decimal, sym, refl, ap, ◌∙◌, subst, ⊎_elim, append_assoc, arith, eqb-true}
+use Rattle.std.specs.List.{flat_map, AllByRecursion}
 use Rattle.std.specs.Fmt.{signed_decimal}
 use Rattle.std.proofs.lemmas.Fmt.{decimal_injective}
-use Rattle.std.proofs.lemmas.List.{append_cancel_left, append-nil}
+use Rattle.std.proofs.lemmas.List.{append_cancel_left}
 use Rattle.std.proofs.lemmas.Bool.{cases_Bool, cond-true, cond-false}
 use Rattle.host.proofs.Spelled.{same_from_name}
-use Rattle.host.specs.declared.rows.Row.{Row}
 use Rattle.table_text.specs.declared.lines.Key.{Key}
 use Rattle.table_text.specs.declared.lines.Key.TheVariants.{Place, Kind, Name, Owner, Link, Up, Lo, Hi, Value}
 use Rattle.table_text.specs.declared.lines.Line.{Line}
-use Rattle.table_text.specs.Lines.{kind_text, place_text, key_text, value_text, ending, word, ended, order, line_text}
-use Rattle.table_text.specs.Texts.{Word, Ended, Sayable}
-use Rattle.table_text.specs.Keys.{Fits, keys_before, keys_after, before}
+use Rattle.table_text.specs.Lines.{kind_text, place_text, key_text, value_text, word, ended, order, line_text}
+use Rattle.table_text.specs.Keys.{Fits, keys_before, keys_after}
 use Rattle.table_text.proofs.Joins.{joined_append}
-use Rattle.table_text.proofs.Cuts.{strip, same_word, digits, line_word, word_on}
+use Rattle.table_text.proofs.Cuts.{strip, same_word, digits}
 use Rattle.table_text.proofs.Spelling.{million_fits, one_number}
 
 -- the kind that a word of text says
@@ -31,7 +28,7 @@ kind_back (suc (suc (suc (suc zero)))) h l = refl
 kind_back (suc (suc (suc (suc (suc k))))) h l = absurd (omega arith)
 
 not_none : (n : ℕ) → n < 2 ^ 64 → codes "none" ≡ decimal n → ⊥
-not_none n h e = let d = subst (λ s. All (λ b. (47 < b) × (b < 58)) s) (sym e) (digits n h) in omega (arith, d.0)
+not_none n h e = let d = subst (λ s. AllByRecursion (λ b. (47 < b) × (b < 58)) s) (sym e) (digits n h) in omega (arith, d.0)
 
 place_same : (p q : ℕ) → p ≤ 255 → q ≤ 255 → place_text p ≡ place_text q → p ≡ q
 place_same p q hp hq e =
