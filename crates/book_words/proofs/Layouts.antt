@@ -1,7 +1,6 @@
 -- A text is laid out in one way: its tokens are found again.
-use Rattle.std.proofs.Common.{◌≡◌, ℕ, ◌+◌, ◌-◌, ◌<◌, ◌≤◌, Bool, true, false, cond, eqb, ◌⊎◌, List, [], ◌∷◌, ◌++◌, length, get_or, take, drop, sym, refl, ap, ◌∙◌, subst, inl, inr, ⊎_elim, true≢false, append_assoc, append-nil, arith}
+use Rattle.std.proofs.Common.{◌≡◌, ℕ, Bool, true, false, cond, eqb, List, [], ◌∷◌, ◌++◌, sym, refl, ap, ◌∙◌, subst, inl, inr, ⊎_elim, true≢false, arith}
 use Rattle.std.specs.List.{AllByRecursion as All}
-use Rattle.book_words.specs.declared.bytes.ByteKind.{ByteKind}
 use Rattle.book_words.specs.declared.bytes.ByteKind.TheVariants.{Blank, Newline, Sign as SignByte, Plain}
 use Rattle.book_words.specs.declared.bytes.Class.{Class}
 use Rattle.book_words.specs.declared.bytes.Class.TheVariants.{Line, Sign, Word}

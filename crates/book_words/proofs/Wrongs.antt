@@ -1,8 +1,8 @@
 -- The first wrong word of a text, from the first wrong one among its words.
-use Rattle.std.proofs.Common.{◌≡◌, ℕ, ◌+◌, ◌-◌, ◌<◌, ◌≤◌, true, ◌⊎◌, List, [], ◌∷◌, ◌++◌, length, get_or, take, drop, sym, refl, ap, ◌∙◌, subst, inl, inr, ⊎_elim, true≢false, append_assoc, append-nil, arith, length-append, take-append-drop}
+use Rattle.std.proofs.Common.{◌≡◌, ℕ, ◌+◌, ◌-◌, ◌<◌, ◌≤◌, ◌⊎◌, List, [], ◌∷◌, ◌++◌, length, get_or, take, drop, sym, refl, ap, ◌∙◌, subst, inl, inr, ⊎_elim, true≢false, append_assoc, append-nil, arith, length-append, take-append-drop}
 use lib.ListN.{length-map}
 use Rattle.std.specs.List.{AllByRecursion as All}
-use Rattle.std.proofs.lemmas.List.{take_all, drop_more, drop_all, get_or_default}
+use Rattle.std.proofs.lemmas.List.{drop_more, drop_all, get_or_default}
 use Rattle.std.proofs.lemmas.Bool.{cases_lt}
 use Rattle.book_words.specs.declared.bytes.Class.{Class}
 use Rattle.book_words.specs.declared.bytes.Class.TheVariants.{Line, Sign, Word}
@@ -11,9 +11,9 @@ use Rattle.book_words.specs.declared.tokens.Found.{Found}
 use Rattle.book_words.specs.Cuts.{part, words_of, Stands, Cut, start, next, Misplaced, lack_at, Points, Ended}
 use Rattle.book_words.specs.Bytes.{kind_of, is_sign}
 use Rattle.book_words.specs.declared.bytes.ByteKind.TheVariants.{Plain}
-use Rattle.book_words.specs.Layout.{Proper, AtMostBlank, Gap, Laid, none, more, Stays}
+use Rattle.book_words.specs.Layout.{Proper, AtMostBlank, Laid, none, more, Stays}
 use Rattle.book_words.specs.Wrong.{TextOf, FirstWrong, Whole}
-use Rattle.book_words.proofs.Layouts.{lay, at_most, not_plain_32, not_plain_10, no_first_blank, no_two_blanks, no_last_blank, no_blank_at_end, proper_some, append_some}
+use Rattle.book_words.proofs.Layouts.{lay, at_most, not_plain_10, no_first_blank, no_two_blanks, no_last_blank, no_blank_at_end, proper_some, append_some}
 use Rattle.book_words.proofs.Finding.{front, one_more, words_more, laid_on, begins, blank_stays}
 use Rattle.book_words.proofs.Parting.{part_join, part_one, length_part}
 
