@@ -1,6 +1,6 @@
 -- How words and signs are laid out in a text. The end of a line is a token too.
 use Rattle.std.specs.Prelude.{◌≡◌, ℕ, true, ◌⊎◌, List, [], ◌∷◌, ◌++◌, ◌≢◌}
-use Rattle.std.specs.List.{AllByRecursion as All}
+use Rattle.std.specs.List.{AllByRecursion}
 use Rattle.book_words.specs.declared.bytes.ByteKind.TheVariants.{Plain}
 use Rattle.book_words.specs.declared.bytes.Class.{Class}
 use Rattle.book_words.specs.declared.bytes.Class.TheVariants.{Line, Sign, Word}
@@ -10,7 +10,7 @@ use Rattle.book_words.specs.Bytes.{kind_of, is_sign}
 abbrev pub Proper : Class → List ℕ → Type 0
 Proper Line t = t ≡ 10 ∷ []
 Proper Sign t = (b : ℕ) × (is_sign b ≡ true) × (t ≡ b ∷ [])
-Proper Word t = (t ≢ []) × All (λ b. kind_of b ≡ Plain) t
+Proper Word t = (t ≢ []) × AllByRecursion (λ b. kind_of b ≡ Plain) t
 
 -- nothing, or one blank
 abbrev pub AtMostBlank : List ℕ → Type 0
