@@ -1,5 +1,5 @@
 -- The working values: found by number, filled one after the other, and cleared.
-use Rattle.std.proofs.Common.{◌≡◌, ℕ, zero, suc, ◌+◌, ◌<◌, ◌≤◌, Bool, true, false, ltb, ◌≢◌, List, [], ◌∷◌, length, get_or, set, replicate, sym, refl, ap, ◌∙◌, arith, length-set, below_more}
+use Rattle.std.proofs.Common.{◌≡◌, ℕ, zero, suc, ◌+◌, ◌<◌, ◌≤◌, Bool, true, false, ltb, ◌≢◌, List, length, get_or, set, replicate, sym, refl, ap, ◌∙◌, arith, below_more}
 use Rattle.std.proofs.lemmas.Bool.{ltb-true, ltb-false}
 use Rattle.std.proofs.lemmas.List.{same_lists, get_or_default, get_or_past, get_or-replicate, length-replicate, get_or-set_same, get_or-set_other}
 use Rattle.scale.specs.Laws.{Ops}
@@ -8,7 +8,6 @@ use Rattle.ftpl.specs.Formulas.{leaf_at}
 use Rattle.ftpl.specs.Properties.{numbered_value}
 use Rattle.ftpl.specs.declared.properties.Property.{Property}
 use Rattle.ftpl.specs.declared.formulas.Formula.{Formula}
-use Rattle.ftpl.specs.declared.formulas.Leaves.{Leaves}
 use Rattle.ftpl.specs.declared.formulas.Slot.{Slot}
 use Rattle.ftpl.proofs.Numbered.{numbered_far}
 use Rattle.monitor.specs.Monitor.{number_of}

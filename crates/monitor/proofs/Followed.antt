@@ -3,7 +3,6 @@ use Rattle.std.proofs.Common.{◌≡◌, ℕ, ◌+◌, ◌*◌, ◌<◌, ◌≤�
 use Rattle.scale.specs.Laws.{Ops}
 use Rattle.host.specs.declared.rows.Row.{Row}
 use Rattle.ftpl.specs.Properties.{numbered_value}
-use Rattle.ftpl.specs.Formulas.{View}
 use Rattle.ftpl.specs.declared.properties.Property.{Property}
 use Rattle.ftpl.specs.declared.formulas.EventList.{EventList}
 use Rattle.ftpl.specs.declared.formulas.Formula.{Formula}

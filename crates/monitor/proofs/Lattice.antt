@@ -1,5 +1,5 @@
 -- What the laws of a scale give.
-use Rattle.std.proofs.Common.{◌≡◌, sym, refl, ap, ◌∙◌, ap₂}
+use Rattle.std.proofs.Common.{◌≡◌, ◌∙◌}
 use Rattle.scale.specs.Laws.{Ops, Laws}
 
 module _ {V : Type 0} {s : Ops V} (p : Laws s) where

@@ -1,9 +1,8 @@
 -- Each part of the monitor's step keeps `both`, cell by cell, and a lock in front.
-use Rattle.std.proofs.Common.{◌≡◌, Bool, true, false, cond, List, [], ◌∷◌, map, sym, refl, ap, ◌∙◌, ap₂}
+use Rattle.std.proofs.Common.{◌≡◌, Bool, true, false, cond, List, [], ◌∷◌, sym, refl, ap, ◌∙◌, ap₂}
 use mathlib.Core.Path.{fun_ext}
 use Rattle.scale.specs.Laws.{Ops, Laws}
-use Rattle.ftpl.specs.Formulas.{View, leaf_at}
-use Rattle.monitor.specs.Segments.{leaf}
+use Rattle.ftpl.specs.Formulas.{View}
 use Rattle.monitor.specs.Monitor.{Set, Cell, clause, kept, none, without, absorb, grown, extend, extend_all, happen, blank, launch, go, readout, told_by}
 use Rattle.ftpl.specs.declared.formulas.Slot.{Slot}
 use Rattle.ftpl.specs.declared.formulas.Slot.TheVariants.{First, Second, Third, Fourth}
@@ -16,7 +15,7 @@ use Rattle.ftpl.specs.declared.formulas.Core.{Core}
 use Rattle.ftpl.specs.declared.formulas.Core.TheVariants.{Plain, Before, Until}
 use Rattle.ftpl.specs.declared.formulas.EventList.{EventList}
 use Rattle.monitor.specs.declared.leaf_values.LeafValues.{LeafValues}
-use Rattle.monitor.proofs.Lattice.{either_assoc, top_either, either_top, both_top, dist_right, both_cross, either_swap}
+use Rattle.monitor.proofs.Lattice.{either_assoc, top_either, either_top, both_top, dist_right, both_cross}
 
 abbrev pub meet : {V K : Type 0} → Ops V → (K → V) → (K → V) → K → V
 meet s a b k = s.both (a k) (b k)

@@ -1,11 +1,10 @@
 -- The parts of a step, as the code makes them.
-use Rattle.std.proofs.Common.{◌≡◌, ℕ, ◌<◌, ◌≤◌, Bool, true, false, cond, ◌≢◌, List, length, get_or, set, sym, refl, ap, ◌∙◌, ap₂, arith, get_or-set_other, get_or-set_same}
+use Rattle.std.proofs.Common.{◌≡◌, ℕ, ◌<◌, Bool, true, cond, ◌≢◌, List, length, get_or, set, sym, ap, ◌∙◌, ap₂, arith, get_or-set_other, get_or-set_same}
 use mathlib.Core.Path.{fun_ext}
 use Rattle.scale.specs.Laws.{Ops}
 use Rattle.monitor.specs.Monitor.{Set, Cell, clause, kept, none, absorb, lengthen, happen_row, happen_kept, launch_row, go_row, go_with, read_row, held, passed, begin, step_with}
 use Rattle.monitor.specs.Layout.{mask, clauses, cells_of, viewed, Locked}
 use Rattle.ftpl.specs.declared.formulas.EventList.{EventList}
-use Rattle.ftpl.specs.declared.formulas.Slot.{Slot}
 use Rattle.ftpl.specs.declared.formulas.Slot.TheVariants.{First, Second, Third, Fourth}
 use Rattle.ftpl.specs.declared.formulas.Leaves.{Leaves}
 use Rattle.ftpl.specs.declared.formulas.Trace.{Trace}

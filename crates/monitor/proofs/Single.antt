@@ -16,8 +16,8 @@ use Rattle.ftpl.specs.declared.formulas.Trace.TheVariants.{At, Both', Either'}
 use Rattle.ftpl.specs.declared.formulas.Core.{Core}
 use Rattle.ftpl.specs.declared.formulas.Core.TheVariants.{Plain, Before, Until}
 use Rattle.ftpl.specs.declared.formulas.EventList.{EventList}
-use Rattle.monitor.proofs.Lattice.{either_assoc, bottom_either, either_bottom, top_either, either_top, both_top, either_idem, dist_right, both_cross, either_cross, either_swap}
-use Rattle.monitor.proofs.Linear.{advance, advances, single}
+use Rattle.monitor.proofs.Lattice.{either_assoc, bottom_either, either_bottom, both_top, either_idem, dist_right, either_swap}
+use Rattle.monitor.proofs.Linear.{advances, single}
 
 abbrev put : {V : Type 0} → Slot → V → (Slot → V) → Slot → V
 put j u v i = cond (same j i) u (v i)

@@ -1,15 +1,15 @@
 -- From one step of each formula to the whole path of a book.
-use Rattle.std.proofs.Common.{◌≡◌, ℕ, zero, suc, ◌+◌, ◌-◌, ◌*◌, ◌<◌, ◌≤◌, List, [], ◌∷◌, ◌++◌, map, length, get_or, drop, None, vec_items, vec_len, sym, refl, ap, ◌∙◌, subst, arith}
-use Rattle.std.proofs.lemmas.List.{map-append, get_or-map, length-map}
+use Rattle.std.proofs.Common.{◌≡◌, ℕ, zero, suc, ◌-◌, ◌*◌, ◌<◌, ◌≤◌, List, [], ◌∷◌, ◌++◌, map, length, get_or, drop, None, vec_items, vec_len, sym, ap, ◌∙◌, subst, arith}
+use Rattle.std.proofs.lemmas.List.{map-append, get_or-map}
 use Rattle.scale.specs.Laws.{Ops, Laws}
 use Rattle.ftpl.specs.Paths.{Position, position_at}
-use Rattle.ftpl.specs.Formulas.{seen, formula_from, formula_value, shown_value}
+use Rattle.ftpl.specs.Formulas.{seen, formula_value, shown_value}
 use Rattle.ftpl.specs.declared.books.Book.{Book}
 use Rattle.ftpl.specs.declared.properties.Property.{Property}
 use Rattle.ftpl.specs.declared.formulas.Formula.{Formula}
 use Rattle.monitor.specs.Monitor.{begin, step, run, shown}
 use Rattle.monitor.specs.Layout.{viewed}
-use Rattle.monitor.specs.Boards.{room, part, Stands, Stepped, Watches, Tidy}
+use Rattle.monitor.specs.Boards.{room, part, Stepped, Watches, Tidy}
 use Rattle.monitor.proofs.Spans.{drop_on}
 use Rattle.monitor.proofs.Whole.{run_more}
 use Rattle.monitor.proofs.Numbered.{segment, segment_list, right_numbered}

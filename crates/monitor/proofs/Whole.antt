@@ -1,15 +1,15 @@
 -- The monitor shows what the formula says.
-use Rattle.std.proofs.Common.{◌≡◌, ℕ, ◌≤◌, Bool, true, false, cond, List, [], ◌∷◌, ◌++◌, map, length, Some, None, Option, sym, refl, ap, ◌∙◌, ap₂, arith}
+use Rattle.std.proofs.Common.{◌≡◌, ◌≤◌, Bool, true, false, cond, List, [], ◌∷◌, ◌++◌, map, length, Some, None, Option, sym, refl, ap, ◌∙◌, ap₂, arith}
 use mathlib.Core.Path.{fun_ext}
 use Rattle.scale.specs.Laws.{Ops, Laws}
 use Rattle.ftpl.specs.Joins.{all}
 use Rattle.ftpl.specs.Formulas.{View}
 use Rattle.monitor.specs.Segments.{starts, core, after, meaning}
-use Rattle.monitor.specs.Monitor.{Cell, State, held, passed, begin, step, run, readout, shown}
+use Rattle.monitor.specs.Monitor.{State, held, passed, begin, step, run, readout, shown}
 use Rattle.ftpl.specs.declared.formulas.EventList.{EventList}
 use Rattle.ftpl.specs.declared.formulas.Formula.{Formula}
 use Rattle.monitor.proofs.Lattice.{bottom_either, top_either, either_top, both_top}
-use Rattle.monitor.proofs.Linear.{Locked, places, spawned, goes, goes_value, single}
+use Rattle.monitor.proofs.Linear.{Locked, places, spawned, goes, goes_value}
 use Rattle.monitor.proofs.Single.{single_core}
 
 -- the locks behind an `after`

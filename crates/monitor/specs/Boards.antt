@@ -1,5 +1,5 @@
 -- A board: forty values for each formula of a book, then 64 working values; values behind these are another's.
-use Rattle.std.specs.Prelude.{◌≡◌, ℕ, ◌+◌, ◌*◌, ◌<◌, ◌≤◌, false, List, [], ◌∷◌, map, length, drop, replicate, Ok, Err, vec_items, vec_len, Result, slice_index_or}
+use Rattle.std.specs.Prelude.{◌≡◌, ℕ, ◌+◌, ◌*◌, ◌<◌, ◌≤◌, false, List, ◌∷◌, map, length, drop, replicate, Ok, Err, vec_items, vec_len, Result, slice_index_or}
 use Rattle.std.specs.List.{between}
 use Rattle.scale.specs.Laws.{Ops}
 use Rattle.host.specs.declared.refusals.Refusal.{Refusal}

@@ -1,5 +1,5 @@
 -- The monitor: what it holds, and how it goes on by a position.
-use Rattle.std.specs.Prelude.{ℕ, Bool, true, false, cond, ◌||◌, List, [], ◌∷◌, Some, None, Option}
+use Rattle.std.specs.Prelude.{ℕ, Bool, true, false, cond, List, [], ◌∷◌, Some, None, Option}
 use Rattle.scale.specs.Laws.{Ops}
 use Rattle.ftpl.specs.Formulas.{View, leaf_at}
 use Rattle.monitor.specs.Segments.{leaf}

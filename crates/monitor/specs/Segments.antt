@@ -1,5 +1,5 @@
 -- What a formula says of a list of positions, as the monitor's proof goes over them; proved equal to the meaning by numbers.
-use Rattle.std.specs.Prelude.{Bool, cond, List, [], ◌∷◌, ◌++◌, map, Some, None, Option}
+use Rattle.std.specs.Prelude.{cond, List, [], ◌∷◌, ◌++◌, map, Some, None, Option}
 use Rattle.scale.specs.Laws.{Ops}
 use Rattle.ftpl.specs.Joins.{all, some}
 use Rattle.ftpl.specs.Formulas.{View, leaf_at}

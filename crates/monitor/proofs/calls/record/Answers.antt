@@ -1,4 +1,4 @@
-use Rattle.std.proofs.Common.{◌≡◌, ◌≤◌, length, Some, vec_items, vec_len, sym, refl, arith}
+use Rattle.std.proofs.Common.{◌≤◌, length, Some, vec_items, vec_len, sym, refl, arith}
 use Rattle.std.proofs.lemmas.Bool.{leb-true}
 use Rattle.ftpl.specs.Paths.{Position}
 use Rattle.monitor.specs.Boards.{room}

@@ -1,4 +1,4 @@
-use Rattle.monitor.specs.Monitor.{Set, lengthen}
+use Rattle.monitor.specs.Monitor.{lengthen}
 use Rattle.monitor.specs.Layout.{clauses}
 use Rattle.monitor.proofs.Masks.{done_more, done_all}
 use Rattle.monitor.proofs.clauses.lengthen.Goals as goal

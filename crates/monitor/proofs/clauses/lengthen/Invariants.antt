@@ -1,4 +1,4 @@
-use Rattle.monitor.specs.Monitor.{Set, lengthen}
+use Rattle.monitor.specs.Monitor.{lengthen}
 use Rattle.monitor.specs.Layout.{clauses}
 use Rattle.monitor.proofs.Masks.{Done}
 use Rattle.monitor.proofs.clauses.lengthen.Given as goal

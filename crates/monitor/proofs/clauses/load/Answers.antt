@@ -1,4 +1,3 @@
-use Rattle.monitor.specs.Monitor.{Set}
 use Rattle.monitor.specs.Layout.{clauses}
 use Rattle.monitor.proofs.Masks.{done_more, done_all}
 use Rattle.monitor.proofs.clauses.load.Goals as goal

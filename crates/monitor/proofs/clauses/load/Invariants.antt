@@ -1,4 +1,3 @@
-use Rattle.monitor.specs.Monitor.{Set}
 use Rattle.monitor.specs.Layout.{clauses}
 use Rattle.monitor.proofs.Masks.{Done}
 use Rattle.monitor.proofs.clauses.load.Given as goal

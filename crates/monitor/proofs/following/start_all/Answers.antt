@@ -1,4 +1,4 @@
-use Rattle.std.proofs.Common.{◌≡◌, ℕ, List, arith}
+use Rattle.std.proofs.Common.{◌≡◌, arith}
 use Rattle.monitor.specs.Monitor.{begin}
 use Rattle.monitor.specs.Layout.{viewed}
 use Rattle.monitor.proofs.Followed.{gone_more, gone_rest}

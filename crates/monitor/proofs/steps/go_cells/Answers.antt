@@ -1,4 +1,4 @@
-use Rattle.std.proofs.Common.{◌≡◌, ℕ, ◌*◌, ◌<◌, ◌≤◌, ◌≢◌, length, ap, ◌∙◌, mul-le-mul_right, mul-one, arith, length-set, get_or-set_other}
+use Rattle.std.proofs.Common.{◌<◌, ◌≤◌, ◌≢◌, length, ◌∙◌, mul-le-mul_right, mul-one, arith, length-set, get_or-set_other}
 use Rattle.std.proofs.lemmas.List.{get_or_read}
 use Rattle.ftpl.specs.Paths.{holds}
 use Rattle.monitor.proofs.Made.{cells_made}

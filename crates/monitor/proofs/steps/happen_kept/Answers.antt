@@ -1,4 +1,4 @@
-use Rattle.std.proofs.Common.{◌≡◌, true, get_or, sym, rules}
+use Rattle.std.proofs.Common.{◌≡◌, true, sym}
 use Rattle.monitor.specs.Layout.{clauses}
 use Rattle.ftpl.specs.Paths.{holds}
 use Rattle.monitor.proofs.Made.{before_hit}

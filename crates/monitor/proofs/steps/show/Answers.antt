@@ -1,4 +1,4 @@
-use Rattle.std.proofs.Common.{◌≡◌, ℕ, ◌*◌, ◌<◌, ◌≤◌, length, ◌∙◌, ap₂, mul-le-mul_right, mul-one, arith}
+use Rattle.std.proofs.Common.{◌<◌, ◌≤◌, length, ◌∙◌, ap₂, mul-le-mul_right, mul-one, arith}
 use Rattle.std.proofs.lemmas.List.{get_or_read}
 use Rattle.monitor.specs.Monitor.{read_row}
 use Rattle.monitor.proofs.steps.show.Goals as goal
