@@ -1,5 +1,5 @@
 -- The tokens that a text was cut into are laid out in it, and no others are.
-use Rattle.std.proofs.Common.{◌≡◌, ℕ, ◌+◌, ◌-◌, ◌<◌, ◌≤◌, ◌⊎◌, List, [], ◌∷◌, ◌++◌, map, length, get_or, take, drop, sym, refl, ap, ◌∙◌, subst, inl, inr, ⊎_elim, append_assoc, append-nil, arith, take-append-drop}
+use Rattle.std.proofs.Common.{◌≡◌, ℕ, ◌+◌, ◌-◌, ◌<◌, ◌⊎◌, List, [], ◌∷◌, ◌++◌, length, get_or, take, drop, sym, refl, ap, ◌∙◌, subst, inl, inr, ⊎_elim, append_assoc, append-nil, arith, take-append-drop}
 use Rattle.std.proofs.lemmas.List.{take_all, drop_more, drop_all}
 use Rattle.std.proofs.lemmas.Bool.{cases_lt}
 use Rattle.book_words.specs.declared.bytes.Class.{Class}
@@ -7,7 +7,7 @@ use Rattle.book_words.specs.declared.bytes.Class.TheVariants.{Line, Sign, Word}
 use Rattle.book_words.specs.declared.tokens.Token.{Token}
 use Rattle.book_words.specs.declared.tokens.Found.{Found}
 use Rattle.book_words.specs.Cuts.{part, words_of, Stands, Cut, start, next, Misplaced}
-use Rattle.book_words.specs.Layout.{Proper, Gap, Laid, none, more, Stays}
+use Rattle.book_words.specs.Layout.{Laid, none, more, Stays}
 use Rattle.book_words.proofs.Layouts.{first_token, gap_stays, not_plain_32, no_first_blank, no_two_blanks, no_last_blank, no_blank_at_end}
 use Rattle.book_words.proofs.Parting.{part_join}
 

@@ -1,7 +1,6 @@
 -- A text is laid out in one way: its tokens are found again.
-use Rattle.std.proofs.Common.{◌≡◌, ℕ, ◌+◌, ◌-◌, ◌<◌, ◌≤◌, Bool, true, false, cond, eqb, ◌⊎◌, List, [], ◌∷◌, ◌++◌, length, get_or, take, drop, sym, refl, ap, ◌∙◌, subst, inl, inr, ⊎_elim, true≢false, append_assoc, append-nil, arith}
-use Rattle.std.specs.List.{AllByRecursion as All}
-use Rattle.book_words.specs.declared.bytes.ByteKind.{ByteKind}
+use Rattle.std.proofs.Common.{◌≡◌, ℕ, Bool, true, false, cond, eqb, List, [], ◌∷◌, ◌++◌, sym, refl, ap, ◌∙◌, subst, inl, inr, ⊎_elim, true≢false, arith}
+use Rattle.std.specs.List.{AllByRecursion}
 use Rattle.book_words.specs.declared.bytes.ByteKind.TheVariants.{Blank, Newline, Sign as SignByte, Plain}
 use Rattle.book_words.specs.declared.bytes.Class.{Class}
 use Rattle.book_words.specs.declared.bytes.Class.TheVariants.{Line, Sign, Word}
@@ -59,7 +58,7 @@ laid_stays Word none = tt
 laid_stays c (more d g t {s = z} h k l) = gap_stays c d g t z h k
 
 -- two words at the start of one text are one
-one_word : (t u r s : List ℕ) → All (λ b. kind_of b ≡ Plain) t → All (λ b. kind_of b ≡ Plain) u → Stays Word r → Stays Word s → t ++ r ≡ u ++ s → (t ≡ u) × (r ≡ s)
+one_word : (t u r s : List ℕ) → AllByRecursion (λ b. kind_of b ≡ Plain) t → AllByRecursion (λ b. kind_of b ≡ Plain) u → Stays Word r → Stays Word s → t ++ r ≡ u ++ s → (t ≡ u) × (r ≡ s)
 one_word [] [] r s h k x y e = (refl, e)
 one_word [] (b ∷ u) r s h k x y e = absurd (subst (Stays Word) e x k.0)
 one_word (b ∷ t) [] r s h k x y e = absurd (subst (Stays Word) (sym e) y h.0)
@@ -127,7 +126,7 @@ first_token {c} (more d' g' t' {s = r'} {p = q} h' k' l) d g t r h k x e =
     (q, ap (λ z. z ∷ q) w.word, subst (λ z. Laid z q r) w.class (subst (λ z. Laid d' q z) w.rest l))
 
 -- any tokens can be laid out
-pub lay : (c : Class) (p : List (List ℕ)) → All (λ t. (d : Class) × Proper d t) p → (s : List ℕ) × Laid c p s
+pub lay : (c : Class) (p : List (List ℕ)) → AllByRecursion (λ t. (d : Class) × Proper d t) p → (s : List ℕ) × Laid c p s
 lay c [] h = ([], none)
 lay c (t ∷ p) h =
     let d = h.0.0 in

@@ -1,8 +1,8 @@
 -- The first wrong word of a text, from the first wrong one among its words.
-use Rattle.std.proofs.Common.{◌≡◌, ℕ, ◌+◌, ◌-◌, ◌<◌, ◌≤◌, true, ◌⊎◌, List, [], ◌∷◌, ◌++◌, length, get_or, take, drop, sym, refl, ap, ◌∙◌, subst, inl, inr, ⊎_elim, true≢false, append_assoc, append-nil, arith, length-append, take-append-drop}
+use Rattle.std.proofs.Common.{◌≡◌, ℕ, ◌+◌, ◌-◌, ◌<◌, ◌≤◌, ◌⊎◌, List, [], ◌∷◌, ◌++◌, length, get_or, take, drop, sym, refl, ap, ◌∙◌, subst, inl, inr, ⊎_elim, true≢false, append_assoc, append-nil, arith, length-append, take-append-drop}
 use lib.ListN.{length-map}
-use Rattle.std.specs.List.{AllByRecursion as All}
-use Rattle.std.proofs.lemmas.List.{take_all, drop_more, drop_all, get_or_default}
+use Rattle.std.specs.List.{AllByRecursion}
+use Rattle.std.proofs.lemmas.List.{drop_more, drop_all, get_or_default}
 use Rattle.std.proofs.lemmas.Bool.{cases_lt}
 use Rattle.book_words.specs.declared.bytes.Class.{Class}
 use Rattle.book_words.specs.declared.bytes.Class.TheVariants.{Line, Sign, Word}
@@ -11,13 +11,13 @@ use Rattle.book_words.specs.declared.tokens.Found.{Found}
 use Rattle.book_words.specs.Cuts.{part, words_of, Stands, Cut, start, next, Misplaced, lack_at, Points, Ended}
 use Rattle.book_words.specs.Bytes.{kind_of, is_sign}
 use Rattle.book_words.specs.declared.bytes.ByteKind.TheVariants.{Plain}
-use Rattle.book_words.specs.Layout.{Proper, AtMostBlank, Gap, Laid, none, more, Stays}
+use Rattle.book_words.specs.Layout.{Proper, AtMostBlank, Laid, none, more, Stays}
 use Rattle.book_words.specs.Wrong.{TextOf, FirstWrong, Whole}
-use Rattle.book_words.proofs.Layouts.{lay, at_most, not_plain_32, not_plain_10, no_first_blank, no_two_blanks, no_last_blank, no_blank_at_end, proper_some, append_some}
+use Rattle.book_words.proofs.Layouts.{lay, at_most, not_plain_10, no_first_blank, no_two_blanks, no_last_blank, no_blank_at_end, proper_some, append_some}
 use Rattle.book_words.proofs.Finding.{front, one_more, words_more, laid_on, begins, blank_stays}
 use Rattle.book_words.proofs.Parting.{part_join, part_one, length_part}
 
-all_behind : (P : List ℕ → Type 0) (p u : List (List ℕ)) → All P (p ++ u) → All P u
+all_behind : (P : List ℕ → Type 0) (p u : List (List ℕ)) → AllByRecursion P (p ++ u) → AllByRecursion P u
 all_behind P [] u h = h
 all_behind P (t ∷ p) u h = all_behind P p u h.1
 
@@ -45,7 +45,7 @@ none_left c l = nothing_laid l refl
     nothing_laid none e = refl
     nothing_laid (more d g t {s = z} h k l) e = absurd (append_some g t z (proper_some d t h) (sym e))
 
-module _ (L : List (List ℕ) → Type 0) (proper : (p : List (List ℕ)) → L p → All (λ t. (d : Class) × Proper d t) p) where
+module _ (L : List (List ℕ) → Type 0) (proper : (p : List (List ℕ)) → L p → AllByRecursion (λ t. (d : Class) × Proper d t) p) where
   -- words that go on to the language are laid out so that the text goes on
   goes_on : {s : List ℕ} {us : List Token} {i : ℕ} {c : Class} → Cut s us i c → (u : List (List ℕ)) → L (words_of us ++ u) → (after : List ℕ) × TextOf L (take i s ++ after)
   goes_on {s} {us} {i} {c} k u l =
@@ -265,7 +265,7 @@ line_or_not Line = inl refl
 line_or_not Sign = inr (λ e. let z : ◌≡◌ {A = ℕ} 0 1 = cc in omega arith)
 line_or_not Word = inr (λ e. let z : ◌≡◌ {A = ℕ} 0 1 = cc in omega arith)
 
-module _ (L : List (List ℕ) → Type 0) (proper : (p : List (List ℕ)) → L p → All (λ t. (d : Class) × Proper d t) p) where
+module _ (L : List (List ℕ) → Type 0) (proper : (p : List (List ℕ)) → L p → AllByRecursion (λ t. (d : Class) × Proper d t) p) where
   module _ {s : List ℕ} {ts : List Token} {e : ℕ} {c : Class} (k : Cut s ts e c) (r : Token) where
     told_as : (at : ℕ) (w : List ℕ) → r.at ≡ at → r.word.now ≡ w → FirstWrong L s at w → FirstWrong L s r.at r.word.now
     told_as at w p q f = subst (λ z. FirstWrong L s z r.word.now) (sym p) (subst (FirstWrong L s at) (sym q) f)

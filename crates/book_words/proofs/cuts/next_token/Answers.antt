@@ -1,4 +1,4 @@
-use Rattle.std.proofs.Common.{◌≡◌, sym, refl, ◌∙◌}
+use Rattle.std.proofs.Common.{sym, refl}
 use Rattle.book_words.proofs.Parting.{found_gap}
 use Rattle.book_words.proofs.cuts.next_token.Goals as goal
 

@@ -1,4 +1,4 @@
-use Rattle.std.proofs.Common.{◌≡◌, ◌+◌, get_or, sym, subst}
+use Rattle.std.proofs.Common.{◌+◌, get_or, sym, subst}
 use Rattle.book_words.specs.Cuts.{EndsAt, Begins}
 use Rattle.book_words.proofs.Parting.{ends_line, ends_sign, ends_word}
 use Rattle.book_words.proofs.cuts.token_end.Goals as goal

@@ -1,4 +1,4 @@
-use Rattle.std.proofs.Common.{◌≡◌, cond, [], ◌∷◌, ◌++◌, is_ok, vec_items, sym, refl, ap, ◌∙◌, subst, arith, rules}
+use Rattle.std.proofs.Common.{◌≡◌, [], ◌∷◌, ◌++◌, vec_items, sym, subst, arith, rules}
 use Rattle.book_words.specs.declared.bytes.Class.TheVariants.{Line}
 use Rattle.book_words.specs.Cuts.{Cut, start, next}
 use Rattle.book_words.proofs.Finding.{whole, broken_short}
@@ -16,5 +16,5 @@ loop-found-preserved c =
 
 pub returns : goal.returns
 returns c =
-    let h = c.in-default.ensures in
+    let h = c.in_default.ensures in
     record { cut = c.loop-found.invariant.0; inside = c.loop-found.invariant.1; stop = h; whole = whole c.loop-found.invariant.0; broken = broken_short c.loop-found.invariant.0 h }
