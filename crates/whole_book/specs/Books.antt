@@ -1,6 +1,6 @@
 -- The words of a book: its lines in three groups, properties, standing conditions and formulas.
 use Rattle.std.specs.Prelude.{◌≡◌, ℕ, ◌+◌, ◌<◌, ◌≤◌, List, [], ◌∷◌, ◌++◌, length, vec_items, codes, decimal}
-use Rattle.std.specs.List.{AllByRecursion as All}
+use Rattle.std.specs.List.{AllByRecursion}
 use Rattle.ftpl.specs.declared.books.Book.{Book}
 use Rattle.book_text.specs.Rules.{Text, PropertySays}
 use Rattle.book_text.specs.Wrong.{IsRule as IsProperty}
@@ -29,7 +29,7 @@ pub record LinesSay (props : List (List Text)) (holds : List ℕ) (forms : List 
   pub few_formulas : length forms ≤ 32
   -- conditions rise, and each is a property that is listed
   pub rising : Rising 0 holds
-  pub listed : All (λ n. n ≤ length props) holds
+  pub listed : AllByRecursion (λ n. n ≤ length props) holds
   pub words : p ≡ numbered (codes "prop=") 1 props ++ (held holds ++ numbered (codes "form=") 1 forms)
 
 -- the relation holds between the things of two lists, one by one
@@ -52,6 +52,6 @@ pub record IsBook (p : List Text) : Type 0 where
   pub props : List (List Text)
   pub holds : List ℕ
   pub forms : List (List Text)
-  pub properties : All IsProperty props
-  pub formulas : All (IsFormula (length props)) forms
+  pub properties : AllByRecursion IsProperty props
+  pub formulas : AllByRecursion (IsFormula (length props)) forms
   pub lines : LinesSay props holds forms p
