@@ -1,9 +1,9 @@
 -- To read and to write one row of a part.
-use Rattle.std.proofs.Common.{◌≡◌, ℕ, ◌+◌, ◌-◌, ◌<◌, ◌≤◌, min, List, length, get_or, take, drop, set, Ok, Err, Result, sym, refl, ap, ◌∙◌, arith, length-drop, length-set, length-take, get_or-drop, get_or-take, drop-set-lt}
+use Rattle.std.proofs.Common.{◌≡◌, ℕ, ◌+◌, ◌-◌, ◌<◌, min, List, length, get_or, take, drop, set, Ok, Err, Result, sym, ap, ◌∙◌, arith, length-drop, length-set, length-take, get_or-drop, get_or-take, drop-set-lt}
 use lib.Seq.{take-set-lt, take-set-le, drop-set-add}
 use Rattle.host.specs.declared.refusals.Refusal.{Refusal}
 use Rattle.host.specs.declared.rows.Row.{Row}
-use Rattle.host.specs.Tables.{empty_row, row_at, Reads, Writes}
+use Rattle.host.specs.Tables.{empty_row, Reads, Writes}
 use Rattle.host.specs.Bays.{part, Outside}
 
 module _ (t : List Row) (f n : ℕ) where

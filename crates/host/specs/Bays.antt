@@ -1,6 +1,6 @@
 -- A bay: some of the rows of what lies below.
 use Rattle.std.specs.Prelude.{◌≡◌, ℕ, ◌+◌, ◌≤◌, List, length, take, drop, refl}
-use Rattle.std.proofs.Common.{sym, subst, ◌∙◌, arith, length-take, length-drop}
+use Rattle.std.proofs.Common.{subst, ◌∙◌, arith, length-take, length-drop}
 use Rattle.host.specs.declared.rows.Row.{Row}
 
 abbrev pub part : List Row → ℕ → ℕ → List Row

@@ -1,5 +1,5 @@
 ghost use Rattle.std.specs.Prelude.{◌≡◌, ℕ, ◌<◌, ◌≤◌, true, length, take, Decides, MatchOption, slice_index};
-ghost use Rattle.std.specs.List.{AllByRecursion as All};
+ghost use Rattle.std.specs.List.{AllByRecursion};
 ghost use Rattle.host.specs.Names.{letter_or_digit, NameForm, IsName, packed, up_to_zero, name_bytes, same_name};
 
 /// Whether a byte is an ASCII letter or digit.
@@ -10,7 +10,7 @@ pub fn is_letter_or_digit(b: u8) -> bool
 }
 
 fn all_plain(bytes: &[u8]) -> bool
-    ensures { Decides result (All (λ b. letter_or_digit b ≡ true) bytes.now) }
+    ensures { Decides result (AllByRecursion (λ b. letter_or_digit b ≡ true) bytes.now) }
 {
     for b in bytes {
         if !is_letter_or_digit(*b) {

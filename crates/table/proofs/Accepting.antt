@@ -1,5 +1,5 @@
 -- An accepted step: none of the conditions holds, and a lawful table stays lawful.
-use Rattle.std.proofs.Common.{◌≡◌, ℕ, ◌<◌, ◌≤◌, ◌≢◌, ◌⊎◌, List, ◌∷◌, length, set, Some, None, Ok, Err, Option, Result, sym, refl, ap, ◌∙◌, subst, inl, inr, arith, lit≤}
+use Rattle.std.proofs.Common.{◌≡◌, ℕ, ◌<◌, ◌≤◌, ◌≢◌, List, ◌∷◌, length, set, Some, None, Ok, Err, Option, Result, sym, refl, ap, ◌∙◌, inl, inr, arith, lit≤}
 use native.Mathlib.Decide.{ℕ_discrete}
 use Rattle.host.specs.declared.rows.Row.{Row}
 use Rattle.host.specs.declared.refusals.Refusal.{Refusal}
@@ -11,12 +11,12 @@ use Rattle.table.specs.declared.steps.Step.{Step}
 use Rattle.table.specs.declared.steps.Step.TheVariants.{New, Provide, Require, Parameter, Delete, Add, Remove, Bind, Unbind, Start, Stop, Set}
 use Rattle.table.specs.Climbing.{lt_or_ge}
 use Rattle.table.specs.Conditions.{Condition, joinable}
-use Rattle.table.specs.Places.{component, provided, required, parameter, none, kind_at, name_at, owner_at, link_at, InterfaceLinked, Borne}
-use Rattle.table.specs.Rules.{FieldsFit, InRange, KeepsAll, Lawful}
+use Rattle.table.specs.Places.{component, provided, required, parameter, none, kind_at, owner_at, link_at, InterfaceLinked, Borne}
+use Rattle.table.specs.Rules.{FieldsFit, KeepsAll, Lawful}
 use Rattle.table.specs.Refusals.{refuse_if, first, refusal, beyond, needed, sound, tied, running, in_use, loop, taken}
 use Rattle.table.specs.Steps.{target, row_after, effect, fresh, with_owner, unless_refused, stepped, as_answer, answer}
 use Rattle.table.proofs.Keeping.{Settles, keeps_on}
-use Rattle.table.proofs.Settling.{touched, filling, moved, emptied, ends_apart, past_all, apart, filled, inside_kind, inside_link, link_provided, no_parameter_outside}
+use Rattle.table.proofs.Settling.{touched, filling, moved, emptied, ends_apart, apart, filled, inside_kind, inside_link, link_provided, no_parameter_outside}
 
 pub record Accepted (t : List Row) (s : Step) : Type 0 where
   pub inside : (beyond t s).holds → ⊥

@@ -1,11 +1,9 @@
 -- The edges of the steps.
-use Rattle.std.proofs.Common.{◌≡◌, ℕ, ◌<◌, ◌≤◌, ◌⊎◌, List, [], ◌∷◌, ℤ, pos, ◌+ℤ◌, ◌≤ℤ◌, Some, None, Option, sym, refl, ◌∙◌, inl, inr, arith}
+use Rattle.std.proofs.Common.{ℤ, pos, ◌+ℤ◌, ◌≤ℤ◌, sym, refl, ◌∙◌, inl, inr, arith}
 use lib.Signed.{≤ℤ_refl}
 use Rattle.std.proofs.lemmas.Int.{ints}
-use Rattle.host.specs.declared.refusals.Refusal.{Refusal}
-use Rattle.table.specs.Conditions.{Condition}
 use Rattle.table.specs.Edges.{SetToHi, SetPastHi, AddToItself}
-use Rattle.table.specs.Refusals.{first, refusal}
+use Rattle.table.specs.Refusals.{refusal}
 use Rattle.table.proofs.Telling.{refuses, passes, no_more}
 
 beyond_last : (z : ℤ) → (z +ℤ pos 1) ≤ℤ z → ⊥

@@ -1,13 +1,13 @@
 -- What a row that takes another's place owes for a lawful table to stay lawful.
-use Rattle.std.proofs.Common.{◌≡◌, ℕ, zero, suc, ◌<◌, ◌≤◌, true, ◌≢◌, ◌⊎◌, List, length, set, sym, refl, ap, ◌∙◌, subst, inl, inr, arith}
+use Rattle.std.proofs.Common.{◌≡◌, ℕ, zero, suc, ◌<◌, true, ◌≢◌, ◌⊎◌, List, length, set, sym, ap, ◌∙◌, subst, inl, inr, arith}
 use native.Mathlib.Decide.{ℕ_discrete}
-use Rattle.std.proofs.lemmas.List.{get_or-set_same, get_or-set_other, get_or_past, length-set}
+use Rattle.std.proofs.lemmas.List.{get_or-set_same, get_or-set_other, length-set}
 use Rattle.host.specs.declared.rows.Row.{Row}
 use Rattle.host.specs.declared.refusals.Rule.{Rule}
 use Rattle.host.specs.declared.refusals.Rule.TheVariants.{KnownKind, OwnFields, NameForm, OwnerIsComponent, ParameterOwner, Range, LinkEnd, LinkOwners, OwnersEnd, OwnName}
 use Rattle.host.specs.Tables.{row_at, empty_row}
 use Rattle.host.specs.Names.{IsName, same_name, same_name_sym}
-use Rattle.table.specs.Places.{component, provided, required, parameter, none, kind_at, name_at, owner_at, link_at, Filled, climb, Reaches, Owns, Bears, Joinable}
+use Rattle.table.specs.Places.{component, required, parameter, none, kind_at, name_at, owner_at, link_at, Filled, climb, Reaches, Owns, Bears, Joinable}
 use Rattle.table.specs.Rules.{KindKnown, FieldsFit, InRange, Keeps, KeepsAll}
 
 -- the row r at the place a of the table t

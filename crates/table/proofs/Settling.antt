@@ -4,12 +4,12 @@ use native.Mathlib.Decide.{ℕ_discrete}
 use Rattle.std.proofs.lemmas.List.{get_or_past}
 use Rattle.std.proofs.lemmas.Bool.{cases_order}
 use Rattle.host.specs.declared.rows.Row.{Row}
-use Rattle.host.specs.declared.refusals.Rule.TheVariants.{KnownKind, OwnFields, NameForm, OwnerIsComponent, ParameterOwner, Range, LinkEnd, LinkOwners, OwnersEnd, OwnName}
+use Rattle.host.specs.declared.refusals.Rule.TheVariants.{KnownKind, OwnFields, NameForm, OwnerIsComponent, ParameterOwner, LinkEnd, LinkOwners, OwnersEnd, OwnName}
 use Rattle.host.specs.Tables.{row_at, empty_row}
 use Rattle.host.specs.Names.{IsName, same_name, same_name_sym}
 use Rattle.table.specs.Climbing.{lt_or_ge}
-use Rattle.table.specs.Places.{component, provided, required, parameter, none, kind_at, name_at, owner_at, link_at, Filled, climb, Reaches, Owns, OwnsAnother, LinkOfAnother, InterfaceLinked, Bears, Borne, Joinable}
-use Rattle.table.specs.Rules.{KindKnown, FieldsFit, InRange, KeepsAll}
+use Rattle.table.specs.Places.{component, provided, required, parameter, none, kind_at, name_at, owner_at, link_at, Filled, climb, Reaches, Owns, OwnsAnother, LinkOfAnother, Borne, Joinable}
+use Rattle.table.specs.Rules.{FieldsFit, InRange, KeepsAll}
 use Rattle.table.specs.Steps.{with_owner}
 use Rattle.table.proofs.Keeping.{Settles, at_place, elsewhere}
 

@@ -1,5 +1,5 @@
 -- Edges of the steps, as facts of every table.
-use Rattle.std.specs.Prelude.{◌≡◌, ℕ, ◌<◌, ◌≢◌, List, length, ℤ, pos, ◌+ℤ◌, ◌≤ℤ◌, Some, None}
+use Rattle.std.specs.Prelude.{◌≡◌, ℕ, ◌<◌, List, length, pos, ◌+ℤ◌, ◌≤ℤ◌, Some, None}
 use Rattle.host.specs.declared.rows.Row.{Row}
 use Rattle.host.specs.declared.refusals.Refusal.TheVariants.{OutOfRange, OwnerLoop}
 use Rattle.host.specs.Tables.{row_at}

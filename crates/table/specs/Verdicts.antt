@@ -1,6 +1,6 @@
 -- What a check of a table answers, as a function of the table. It is made so that it answers what `Checked` says
 -- (verdict-right), and there is one such answer.
-use Rattle.std.specs.Prelude.{◌≡◌, ℕ, zero, suc, ◌<◌, ◌≤◌, ◌⊎◌, List, length, ℤ, pos, Some, None, Ok, Err, Option, Result, ◌≢◌, refl}
+use Rattle.std.specs.Prelude.{◌≡◌, ℕ, zero, suc, ◌<◌, ◌≤◌, ◌⊎◌, List, length, ℤ, pos, Ok, Err, Result, ◌≢◌, refl}
 use Rattle.std.proofs.Common.{sym, ap, subst, ◌∙◌, inl, inr, arith, lit≤}
 use Rattle.std.proofs.Math.Decide.{ℕ_discrete, dec_le}
 use Rattle.std.proofs.Math.IntN.{ℤ_discrete}
@@ -13,8 +13,8 @@ use Rattle.host.specs.Numbers.{rule_number}
 use Rattle.table.specs.declared.breaches.Breach.{Breach}
 use Rattle.table.specs.Climbing.{reaches?, lt_or_ge}
 use Rattle.table.specs.Deciding.{both?, either?, not?, implies?, three?, four?, map?, some?, name?, in_range?, owns?, bears?, joinable?}
-use Rattle.table.specs.Places.{component, provided, required, parameter, none, kind_at, name_at, owner_at, link_at, Bears}
-use Rattle.table.specs.Rules.{KindKnown, FieldsFit, Keeps, KeepsAll, Lawful, LowestBroken, FirstBreach, Checked}
+use Rattle.table.specs.Places.{component, provided, required, parameter, none, kind_at, name_at, owner_at, link_at}
+use Rattle.table.specs.Rules.{KindKnown, FieldsFit, Keeps, KeepsAll, Lawful, LowestBroken, Checked}
 
 -- the least number below n at which P fails
 record Least (P : ℕ → Type 0) (n : ℕ) : Type 0 where

@@ -1,4 +1,4 @@
-use Rattle.std.proofs.Common.{◌≡◌, ℕ, ◌/◌, ◌<◌, ◌≤◌, List, length, get_or, sym, refl, ap, ◌∙◌, subst, arith, rules}
+use Rattle.std.proofs.Common.{◌<◌, get_or, sym, refl, ap, ◌∙◌, subst, arith, rules}
 use Rattle.std.proofs.lemmas.List.{set_past}
 use Rattle.host.specs.Packing.{rows_in, room, Spared, unspent}
 use Rattle.host.proofs.Written.{Fits, length_rows, room_inside, rows_put, others_put, spared_put, put_is}

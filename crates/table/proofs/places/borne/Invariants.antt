@@ -1,4 +1,4 @@
-use Rattle.std.proofs.Common.{◌≡◌, ℕ, ◌<◌, ◌≢◌}
+use Rattle.std.proofs.Common.{ℕ, ◌<◌, ◌≢◌}
 use Rattle.table.specs.Places.{Bears}
 use Rattle.table.proofs.places.borne.Given as goal
 
