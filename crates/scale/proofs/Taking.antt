@@ -1,5 +1,5 @@
 -- What `distance_of` is of a number that is a distance's, and of one that is not.
-use Rattle.std.proofs.Common.{◌≡◌, ◌%◌, Bool, true, false, cond, ◌&&◌, eqb, ℤ, pos, negsuc, nat_abs, sym, refl, arith}
+use Rattle.std.proofs.Common.{◌≡◌, ◌%◌, Bool, true, false, cond, ◌&&◌, eqb, ℤ, pos, negsuc, nat_abs, refl, arith}
 use borrow.Author.Differences.{ints}
 use borrow.Author.Tests.{eqb-false}
 use lib.Signed.{le_z}

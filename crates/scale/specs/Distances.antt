@@ -1,9 +1,8 @@
 -- Distances as a scale.
-use Rattle.std.specs.Prelude.{◌≡◌, ℕ, ◌+◌, ◌%◌, ◌<◌, ◌≤◌, Bool, true, false, cond, ◌&&◌, ℤ, pos, negsuc, ◌+ℤ◌, neg_ℤ, ◌≤ℤ◌, ◌==◌, int_le, int_lt, unsigned_abs, refl}
-use Rattle.std.proofs.Common.{sym, ap, true≢false, arith, eqb-true}
+use Rattle.std.specs.Prelude.{◌≡◌, ◌%◌, Bool, true, false, cond, ◌&&◌, ℤ, pos, negsuc, ◌+ℤ◌, neg_ℤ, ◌==◌, int_le, int_lt, unsigned_abs, refl}
+use Rattle.std.proofs.Common.{sym, true≢false, arith, eqb-true}
 use mathlib.Core.HLevel.{is_prop→PathP}
-use base.Stored.{Coded-set, coded_ℕ}
-use denote.Struct.Props.{three_prop, ≤ℤ_prop}
+use denote.Struct.Props.{props}
 use Rattle.std.specs.Int.{int_min, int_max}
 use Rattle.std.proofs.lemmas.Int.{clamps, ints}
 use Rattle.scale.specs.Laws.{Ops, Laws}
@@ -11,7 +10,7 @@ use Rattle.scale.specs.Odd.{Odd}
 use Rattle.scale.specs.declared.distances.Distance.{Distance}
 
 odd_prop : (z : ℤ) → IsProp (Odd z)
-odd_prop z = three_prop ≤ℤ_prop ≤ℤ_prop (Coded-set coded_ℕ _ _)
+odd_prop z = hlevel props
 
 -- two distances of one value are equal
 pub same : (x y : Distance) → x.value ≡ y.value → x ≡ y

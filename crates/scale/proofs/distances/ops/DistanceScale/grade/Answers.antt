@@ -1,4 +1,4 @@
-use Rattle.std.proofs.Common.{pos, ◌+ℤ◌, ◌∙◌, arith}
+use Rattle.std.proofs.Common.{pos, ◌+ℤ◌, arith}
 use borrow.Author.Differences.{ints}
 use Rattle.scale.specs.Odd.{Odd}
 use Rattle.scale.specs.Distances.{same}
