@@ -1,11 +1,10 @@
 -- The edges of the definitions.
-use Rattle.std.proofs.Common.{◌≡◌, ℕ, Bool, true, false, cond, List, [], ◌∷◌, map, ℤ, pos, negsuc, ◌-ℤ◌, neg_ℤ, Some, None, sym, refl, ap, ◌∙◌, true≢false, arith}
+use Rattle.std.proofs.Common.{◌≡◌, ℕ, Bool, true, false, cond, List, [], ◌∷◌, map, ℤ, pos, neg_ℤ, sym, refl, ap, ◌∙◌, true≢false, arith}
 use borrow.Author.Differences.{ints}
 use Rattle.std.proofs.lemmas.Int.{clamps}
 use Rattle.scale.specs.Laws.{Ops, Laws}
 use Rattle.scale.specs.YesNo.{yes_no, yes_no_laws}
 use Rattle.scale.specs.Distances.{distance, distance_laws}
-use Rattle.host.specs.declared.rows.Row.{Row}
 use Rattle.host.specs.Tables.{row_at}
 use Rattle.ftpl.specs.Joins.{all}
 use Rattle.ftpl.specs.Properties.{margin, tests_value}

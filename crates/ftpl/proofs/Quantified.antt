@@ -1,5 +1,5 @@
 -- Going over the places from 0 on: what is joined so far, with what is left, is the whole.
-use Rattle.std.proofs.Common.{◌≡◌, ℕ, zero, suc, ◌+◌, ◌-◌, ◌<◌, ◌≤◌, Bool, true, false, cond, List, [], ◌∷◌, map, sym, refl, ap, ◌∙◌, arith}
+use Rattle.std.proofs.Common.{◌≡◌, ℕ, suc, ◌+◌, ◌-◌, ◌<◌, ◌≤◌, Bool, true, false, cond, List, [], ◌∷◌, map, sym, ap, ◌∙◌, arith}
 use Rattle.scale.specs.Laws.{Ops, Laws}
 use Rattle.ftpl.specs.Joins.{numbers, those, all, some}
 use Rattle.ftpl.specs.Properties.{joined_by, pair_by}

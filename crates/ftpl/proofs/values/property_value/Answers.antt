@@ -1,4 +1,4 @@
-use Rattle.std.proofs.Common.{◌≡◌, ℕ, ◌<◌, ◌≤◌, eqb, length, sym, ap, ◌∙◌, arith}
+use Rattle.std.proofs.Common.{ℕ, ◌<◌, ◌≤◌, eqb, length, sym, ◌∙◌, arith}
 use Rattle.host.specs.Tables.{row_at}
 use Rattle.ftpl.specs.Properties.{kind_number, value_at}
 use Rattle.ftpl.proofs.Quantified.{going_taken, going_left, going_all}
