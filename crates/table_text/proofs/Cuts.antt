@@ -1,19 +1,18 @@
 -- Words and what ends them are cut apart in one way only.
-use Rattle.std.proofs.Common.{◌≡◌, ℕ, zero, suc, ◌+◌, ◌%◌, ◌^◌, ◌<◌, ◌≤◌, Bool, true, false, cond, not, ◌&&◌, eqb, List, [], ◌∷◌, ◌++◌, length, ℤ, pos, negsuc, ◌≤ℤ◌, codes, decimal, sym, refl, ap, ◌∙◌, subst, true≢false, append_assoc, arith, ne_eqb, eqb-true}
-use borrow.Author.Tests.{eqb-false}
+use Rattle.std.proofs.Common.{◌≡◌, ℕ, suc, ◌^◌, ◌<◌, ◌≤◌, Bool, true, false, cond, not, ◌&&◌, eqb, List, [], ◌∷◌, ◌++◌, ℤ, pos, negsuc, ◌≤ℤ◌, codes, decimal, sym, refl, ◌∙◌, subst, true≢false, append_assoc, arith, ne_eqb}
 use lib.Signed.{mag}
 use Rattle.std.specs.List.{AllByRecursion as All, flat_map}
 use Rattle.std.specs.Fmt.{signed_decimal}
 use Rattle.std.proofs.lemmas.Fmt.{decimal_by_steps}
 use Rattle.std.proofs.ByRecursion.{All-append, All-weaker}
-use Rattle.std.proofs.lemmas.Bool.{or_from, and_parts, not-true, cases_Bool}
-use Rattle.host.specs.Names.{IsName, NameForm, letter_or_digit, name_bytes}
+use Rattle.std.proofs.lemmas.Bool.{or_from, and_parts, not-true}
+use Rattle.host.specs.Names.{IsName, letter_or_digit, name_bytes}
 use Rattle.host.proofs.Spelled.{plain_range, name_form}
 use Rattle.table_text.specs.declared.lines.Key.{Key}
 use Rattle.table_text.specs.declared.lines.Key.TheVariants.{Place, Kind, Name, Owner, Link, Up, Lo, Hi, Value}
 use Rattle.table_text.specs.declared.lines.Line.{Line}
 use Rattle.table_text.specs.Lines.{kind_text, place_text, key_text, value_text, ending, word, ended}
-use Rattle.table_text.specs.Texts.{parts, Word, Ended, Sayable}
+use Rattle.table_text.specs.Texts.{parts, Word, Ended}
 use Rattle.table_text.specs.Keys.{Fits}
 use Rattle.table_text.proofs.Spelling.{million_fits}
 

@@ -1,5 +1,5 @@
 -- From a line to the whole text: what was read so far is a table's text, and what is wrong in the rest is wrong in the whole.
-use Rattle.std.proofs.Common.{◌≡◌, ℕ, zero, suc, ◌+◌, ◌-◌, ◌<◌, ◌≤◌, ◌⊎◌, List, [], ◌∷◌, ◌++◌, length, get_or, take, drop, set, replicate, sym, refl, ap, ◌∙◌, subst, inl, inr, ⊎_elim, append_assoc, arith, length-append, length-drop, length-set}
+use Rattle.std.proofs.Common.{◌≡◌, ℕ, zero, suc, ◌+◌, ◌-◌, ◌<◌, ◌≤◌, ◌⊎◌, List, [], ◌∷◌, ◌++◌, length, take, drop, set, replicate, sym, refl, ap, ◌∙◌, subst, inl, inr, ⊎_elim, append_assoc, arith, length-append, length-drop, length-set}
 use Rattle.std.specs.List.{flat_map, AllByRecursion as All}
 use Rattle.std.proofs.ByRecursion.{All-set}
 use Rattle.std.proofs.lemmas.List.{append-nil, length-take-le, drop-drop, drop_more, get_or-set_other, nil_from_length, length-replicate, take_all, take-append-drop}
@@ -10,7 +10,7 @@ use Rattle.table_text.specs.declared.words.Span.{Span}
 use Rattle.table_text.specs.Keys.{Fits}
 use Rattle.table_text.specs.Lines.{line_text, lines_of, text_of_table}
 use Rattle.table_text.specs.Reading.{spanned, Begun, WrongInLine}
-use Rattle.table_text.specs.Texts.{Sayable, SayableTable, TableText, Word, Ended, FirstWrong, Stands}
+use Rattle.table_text.specs.Texts.{Sayable, SayableTable, TableText, Ended, FirstWrong, Stands}
 use Rattle.table_text.specs.declared.words.WrongWord.{WrongWord}
 use Rattle.table_text.specs.Marks.{Marks, ReadAs, WrongIn}
 use Rattle.table_text.proofs.Joins.{joined_push, take_split}

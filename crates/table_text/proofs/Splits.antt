@@ -1,17 +1,14 @@
 -- Tables by their lines: one line more, and what may follow the lines so far.
-use Rattle.std.proofs.Common.{◌≡◌, ℕ, zero, suc, ◌+◌, ◌<◌, ◌≤◌, Bool, true, false, cond, eqb, ◌⊎◌, List, [], ◌∷◌, ◌++◌, length, get_or, set, sym, refl, ap, ◌∙◌, subst, inl, inr, ⊎_elim, true≢false, append_assoc, arith, length-append, length-set, eq-eqb, ne_eqb, eqb-true}
-use borrow.Author.Tests.{eqb-false}
+use Rattle.std.proofs.Common.{◌≡◌, ℕ, zero, suc, ◌+◌, ◌<◌, ◌≤◌, true, false, eqb, ◌⊎◌, List, [], ◌∷◌, ◌++◌, length, set, sym, refl, ap, ◌∙◌, subst, ⊎_elim, append_assoc, arith, length-append, eq-eqb, ne_eqb}
 use Rattle.std.specs.List.{flat_map, AllByRecursion as All}
-use Rattle.std.proofs.ByRecursion.{All-set, All-get_or}
-use Rattle.std.proofs.lemmas.List.{append-nil, get_or-set_other, get_or-set_same}
-use Rattle.std.proofs.lemmas.Bool.{cases_Bool, cond-true, cond-false, cases_eq}
+use Rattle.std.proofs.lemmas.List.{append-nil}
+use Rattle.std.proofs.lemmas.Bool.{cases_Bool, cond-true, cond-false}
 use Rattle.host.specs.Tables.{empty_row, row_at}
 use Rattle.host.specs.declared.rows.Row.{Row}
 use Rattle.table_text.specs.declared.lines.Line.{Line}
-use Rattle.table_text.specs.Lines.{line_text, lines_of, text_of_table, word, ended, order}
+use Rattle.table_text.specs.Lines.{line_text, lines_of, text_of_table, word}
 use Rattle.table_text.specs.Texts.{Sayable, SayableTable}
 use Rattle.table_text.specs.Keys.{Fits}
-use Rattle.table_text.proofs.Joins.{joined_append, joined_push}
 use Rattle.table_text.proofs.Unique.{line_same, rest_same}
 
 -- the place from which on the next line may stand

@@ -1,21 +1,18 @@
 -- A line, and a whole table, has one text only.
-use Rattle.std.proofs.Common.{◌≡◌, ℕ, zero, suc, ◌+◌, ◌^◌, ◌<◌, ◌≤◌, Bool, true, false, cond, eqb, ◌⊎◌, List, [], ◌∷◌, ◌++◌, length, get_or, ℤ, pos, negsuc, ◌≤ℤ◌, codes, decimal, sym, refl, ap, ◌∙◌, subst, inl, inr, ⊎_elim, append_assoc, arith, w32, eq-eqb, ne_eqb, eqb-true}
-use borrow.Author.Tests.{eqb-false}
+use Rattle.std.proofs.Common.{◌≡◌, ℕ, zero, suc, ◌^◌, ◌<◌, ◌≤◌, true, cond, eqb, List, [], ◌∷◌, ◌++◌, get_or, ℤ, pos, negsuc, ◌≤ℤ◌, codes, decimal, sym, refl, ap, ◌∙◌, subst, ⊎_elim, append_assoc, arith, eqb-true}
 use Rattle.std.specs.List.{flat_map, AllByRecursion as All}
 use Rattle.std.specs.Fmt.{signed_decimal}
 use Rattle.std.proofs.lemmas.Fmt.{decimal_injective}
-use Rattle.std.proofs.lemmas.List.{append_cancel_left, append-nil}
+use Rattle.std.proofs.lemmas.List.{append_cancel_left}
 use Rattle.std.proofs.lemmas.Bool.{cases_Bool, cond-true, cond-false}
 use Rattle.host.proofs.Spelled.{same_from_name}
-use Rattle.host.specs.declared.rows.Row.{Row}
 use Rattle.table_text.specs.declared.lines.Key.{Key}
 use Rattle.table_text.specs.declared.lines.Key.TheVariants.{Place, Kind, Name, Owner, Link, Up, Lo, Hi, Value}
 use Rattle.table_text.specs.declared.lines.Line.{Line}
-use Rattle.table_text.specs.Lines.{kind_text, place_text, key_text, value_text, ending, word, ended, order, line_text}
-use Rattle.table_text.specs.Texts.{Word, Ended, Sayable}
-use Rattle.table_text.specs.Keys.{Fits, keys_before, keys_after, before}
+use Rattle.table_text.specs.Lines.{kind_text, place_text, key_text, value_text, word, ended, order, line_text}
+use Rattle.table_text.specs.Keys.{Fits, keys_before, keys_after}
 use Rattle.table_text.proofs.Joins.{joined_append}
-use Rattle.table_text.proofs.Cuts.{strip, same_word, digits, line_word, word_on}
+use Rattle.table_text.proofs.Cuts.{strip, same_word, digits}
 use Rattle.table_text.proofs.Spelling.{million_fits, one_number}
 
 -- the kind that a word of text says

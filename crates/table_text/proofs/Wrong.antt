@@ -5,10 +5,9 @@ use Rattle.std.proofs.lemmas.List.{append-nil, length-take-le, take_more, drop_m
 use Rattle.table_text.specs.declared.lines.Key.{Key}
 use Rattle.table_text.specs.declared.lines.Key.TheVariants.{Place, Kind, Name, Owner, Link, Up, Lo, Hi, Value}
 use Rattle.table_text.specs.declared.lines.Line.{Line}
-use Rattle.table_text.specs.declared.words.Span.{Span}
 use Rattle.table_text.specs.Keys.{Fits, keys_before, keys_after, before}
 use Rattle.table_text.specs.Lines.{ending, word, ended, order, line_text}
-use Rattle.table_text.specs.Reading.{spanned, Begun, WrongInLine}
+use Rattle.table_text.specs.Reading.{Begun, WrongInLine}
 use Rattle.table_text.specs.Texts.{Word, Ended}
 use Rattle.table_text.proofs.Cuts.{cut, line_word, ending_parts, word_on, strip}
 use Rattle.table_text.proofs.Joins.{joined_append, take_split}

@@ -1,8 +1,8 @@
 -- Table text: one line for each filled row, places rising; nine words to a line, each ended by a blank, the last by a newline.
-use Rattle.std.specs.Prelude.{◌≡◌, ℕ, ◌+◌, ◌<◌, ◌≤◌, cond, List, [], ◌∷◌, ◌++◌, ℤ, pos, negsuc, ◌≤ℤ◌, codes, decimal, ◌==◌}
+use Rattle.std.specs.Prelude.{ℕ, ◌+◌, cond, List, [], ◌∷◌, ◌++◌, codes, decimal, ◌==◌}
 use Rattle.std.specs.List.{flat_map}
 use Rattle.std.specs.Fmt.{signed_decimal}
-use Rattle.host.specs.Names.{IsName, name_bytes}
+use Rattle.host.specs.Names.{name_bytes}
 use Rattle.host.specs.declared.rows.Row.{Row}
 use Rattle.table_text.specs.declared.lines.Key.{Key}
 use Rattle.table_text.specs.declared.lines.Key.TheVariants.{Place, Kind, Name, Owner, Link, Up, Lo, Hi, Value}

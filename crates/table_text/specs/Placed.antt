@@ -1,5 +1,5 @@
 -- A table put into a host.
-use Rattle.std.specs.Prelude.{◌≡◌, ℕ, ◌≤◌, true, false, List, map, length, Ok, Err, Result}
+use Rattle.std.specs.Prelude.{◌≡◌, ℕ, ◌≤◌, List, map, length, Ok, Err, Result}
 use Rattle.std.specs.List.{range_with_len}
 use Rattle.host.specs.Tables.{row_at}
 use Rattle.host.specs.declared.rows.Row.{Row}

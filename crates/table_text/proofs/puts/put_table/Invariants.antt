@@ -1,4 +1,4 @@
-use Rattle.std.proofs.Common.{◌≡◌, ◌++◌, map, length, drop}
+use Rattle.std.proofs.Common.{◌≡◌, ◌++◌, map, drop}
 use Rattle.std.specs.List.{range_with_len}
 use Rattle.host.specs.Tables.{row_at}
 use Rattle.table_text.proofs.puts.put_table.Given as goal

@@ -1,4 +1,4 @@
-use Rattle.std.proofs.Common.{◌-◌, ◌≤◌, length}
+use Rattle.std.proofs.Common.{◌-◌, length}
 use Rattle.table_text.proofs.Lifted.{ReadSoFar}
 use Rattle.table_text.proofs.reads.read_table.Given as goal
 

@@ -1,14 +1,14 @@
-use Rattle.std.proofs.Common.{◌≡◌, [], ◌∷◌, ◌++◌, sym, ap, ◌∙◌, append_assoc, arith}
+use Rattle.std.proofs.Common.{[], ◌∷◌, ◌++◌, sym, ◌∙◌, append_assoc, arith}
 use Rattle.std.proofs.lemmas.List.{take_more}
 use Rattle.table_text.specs.Keys.{before}
 use Rattle.table_text.specs.Lines.{ending, word}
 use Rattle.table_text.proofs.Wrong.{wrong_word, lacking, extra, taken_to, ends_early, ends_otherwise}
 use Rattle.table_text.proofs.reads.read_word.Goals as goal
 
-pub returns-in-default : goal.returns-in-default
-returns-in-default c =
+pub returns-in_default : goal.returns-in_default
+returns-in_default c =
     let w = c.word_end-end.ensures in
-    wrong_word c.args.next c.args.rest.now c.args.line c.args.key c.args.at c.word_end-end.result c.requires.fits w.within.0 w.within.1 c.requires.begun w.word w.ended c.in-default.ensures
+    wrong_word c.args.next c.args.rest.now c.args.line c.args.key c.args.at c.word_end-end.result c.requires.fits w.within.0 w.within.1 c.requires.begun w.word w.ended c.in_default.ensures
 
 pub returns-then-end-rest : goal.returns-then-end-rest
 returns-then-end-rest c =

@@ -1,4 +1,4 @@
-use Rattle.std.proofs.Common.{[], ◌∷◌, refl, arith, rules}
+use Rattle.std.proofs.Common.{[], ◌∷◌, refl, arith}
 use borrow.Author.Differences.{ints}
 use Rattle.table_text.proofs.reads.sample_line.Goals as goal
 

@@ -1,4 +1,4 @@
-use Rattle.std.proofs.Common.{◌≡◌, ◌++◌, Some, None, sym, ap, ◌∙◌}
+use Rattle.std.proofs.Common.{◌++◌, Some, None, sym, ap, ◌∙◌}
 use Rattle.std.proofs.lemmas.Slice.Eq.{strip_prefix_is}
 use Rattle.std.proofs.lemmas.List.{append_cancel_left}
 use Rattle.table_text.specs.Lines.{word, key_text, value_text}
@@ -19,4 +19,4 @@ returns-in-Some c =
 
 pub returns-in-None : goal.returns-in-None
 unfolding word
-returns-in-None c = λ l f q. strip_prefix_is c.args.text.now c.text.result.now None c.in-None.ensures.cases (value_text c.args.key l) (q ∙ ap (λ p. p ++ value_text c.args.key l) (sym c.text.ensures.value))
+returns-in-None c = λ l f q. strip_prefix_is Decides-eqb c.args.text.now c.text.result.now None c.in-None.ensures.cases (value_text c.args.key l) (q ∙ ap (λ p. p ++ value_text c.args.key l) (sym c.text.ensures.value))

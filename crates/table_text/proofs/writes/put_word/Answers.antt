@@ -1,5 +1,5 @@
-use Rattle.std.proofs.Common.{◌≡◌, ◌+◌, [], ◌∷◌, ◌++◌, length, set, ap, subst, arith}
-use Rattle.table_text.specs.Lines.{word, key_text, value_text, ending}
+use Rattle.std.proofs.Common.{◌+◌, [], ◌∷◌, ◌++◌, set, subst, arith}
+use Rattle.table_text.specs.Lines.{word, key_text, value_text}
 use Rattle.table_text.specs.Puts.{Puts}
 use Rattle.table_text.proofs.Spelling.{puts_on, puts_byte}
 use Rattle.table_text.proofs.writes.put_word.Goals as goal

@@ -1,4 +1,4 @@
-use Rattle.std.proofs.Common.{◌≡◌, length, ap, ◌∙◌, arith}
+use Rattle.std.proofs.Common.{length, ap, ◌∙◌, arith}
 use Rattle.table_text.proofs.Tables.{length_more, text_all}
 use Rattle.table_text.proofs.writes.text_length.Goals as goal
 

@@ -1,7 +1,6 @@
 use Rattle.std.proofs.Common.{◌≡◌, ◌+◌, ◌-◌, ◌<◌, ◌++◌, length, take, drop, sym, ap, ◌∙◌, arith}
 use Rattle.std.proofs.lemmas.List.{length-take-le, take-append-drop}
-use Rattle.host.specs.Tables.{row_at}
-use Rattle.table_text.specs.Lines.{text_of_table, row_text}
+use Rattle.table_text.specs.Lines.{text_of_table}
 use Rattle.table_text.proofs.Joins.{drop_further}
 use Rattle.table_text.proofs.Tables.{length_more, row_spelt, text_more, text_front, text_all}
 use Rattle.table_text.proofs.writes.write_table.Goals as goal
