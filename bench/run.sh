@@ -1,11 +1,12 @@
 #!/bin/sh
 # Runs the benchmark over 1,000,000 positions and writes the figures of this run into docs/BENCHMARKS.md.
-# Build first: rt check bench
+# It builds the program first, which is proved before.
 set -e
 cd "$(dirname "$0")/.."
+(cd crates/bench && rt run) > /dev/null
 figures=$(mktemp)
 memory=$(mktemp)
-./target/bin/bench million > "$figures" &
+./crates/bench/out/bench million > "$figures" &
 program=$!
 # resident memory, read ten times a second while the program runs
 while kill -0 "$program" 2>/dev/null; do
