@@ -2,7 +2,7 @@
 use Rattle.std.proofs.Common.{◌≡◌, ℕ, zero, suc, ◌+◌, ◌-◌, ◌<◌, ◌≤◌, Bool, true, false, cond, ◌&&◌, ◌||◌, eqb, ltb, leb, ◌⊎◌, List, [], ◌∷◌, ◌++◌, length, ℤ, pos, negsuc, ◌≤ℤ◌, Some, None, Option, sym, refl, ap, ◌∙◌, subst, inl, inr, ⊎_elim, true≢false, arith}
 use borrow.Author.Differences.{ints}
 use Rattle.std.specs.Fmt.{signed_decimal}
-use Rattle.std.specs.List.{AllByRecursion as All}
+use Rattle.std.specs.List.{AllByRecursion}
 use Rattle.std.specs.Str.{bytes_eq}
 use Rattle.std.proofs.lemmas.Slice.Eq.{bytes_eq-Decides}
 use Rattle.std.proofs.lemmas.Bool.{cases_Bool, cond-true, cond-false, or_left, or_right, or_cases, and_parts, and_from, le-leb, leb-true, eqb-true, eqb-false}
@@ -85,11 +85,11 @@ pub of_kind : (o : VariableKind) (i : Option VariableKind) (k : VariableKind) �
 of_kind o None k e = ⊎_elim (λ h. (Outer, kind_is o k h)) (λ h. absurd (true≢false (sym h))) (or_cases (is_kind o k) _ e)
 of_kind o (Some j) k e = ⊎_elim (λ h. (Outer, kind_is o k h)) (λ h. (Inner, ap Some (kind_is j k h))) (or_cases (is_kind o k) _ e)
 
-plain_from : (t : Text) → All (λ b. letter_or_digit b ≡ true) t → all_plain t ≡ true
+plain_from : (t : Text) → AllByRecursion (λ b. letter_or_digit b ≡ true) t → all_plain t ≡ true
 plain_from [] h = refl
 plain_from (b ∷ t) h = and_from (letter_or_digit b) (all_plain t) h.0 (plain_from t h.1)
 
-plain_to : (t : Text) → all_plain t ≡ true → All (λ b. letter_or_digit b ≡ true) t
+plain_to : (t : Text) → all_plain t ≡ true → AllByRecursion (λ b. letter_or_digit b ≡ true) t
 plain_to [] e = tt
 plain_to (b ∷ t) e = let h = and_parts (letter_or_digit b) (all_plain t) e in (h.0, plain_to t h.1)
 

@@ -2,7 +2,7 @@
 use Rattle.std.proofs.Common.{◌≡◌, ℕ, suc, ◌+◌, ◌/◌, ◌%◌, ◌^◌, ◌<◌, ◌≤◌, Bool, true, false, cond, ◌&&◌, ◌||◌, eqb, leb, ◌⊎◌, List, [], ◌∷◌, ◌++◌, length, ℤ, pos, negsuc, Some, None, codes, decimal, Option, sym, refl, ap, ◌∙◌, subst, inl, inr, ⊎_elim, true≢false, arith}
 use borrow.Author.Differences.{ints}
 use Rattle.std.specs.Fmt.{signed_decimal}
-use Rattle.std.specs.List.{AllByRecursion as All}
+use Rattle.std.specs.List.{AllByRecursion}
 use Rattle.std.proofs.ByRecursion.{All-append, All-push, All-weaker}
 use Rattle.std.proofs.lemmas.Fmt.{decimal_by_steps, decimal_nonempty}
 use Rattle.std.proofs.lemmas.Bool.{and_parts, or_cases, leb-true, ne_eqb}
@@ -55,9 +55,9 @@ letter_plain b e =
 digit_plain : (n : ℕ) → n < 10 → kind_of (48 + n) ≡ Plain
 digit_plain n h = apart (48 + n) (omega arith) (λ z. omega arith) (λ z. omega arith) (λ z. omega arith) (λ z. omega arith)
 
-decimal_plain : (n : ℕ) → n < 2 ^ 64 → All (λ b. kind_of b ≡ Plain) (decimal n)
+decimal_plain : (n : ℕ) → n < 2 ^ 64 → AllByRecursion (λ b. kind_of b ≡ Plain) (decimal n)
 decimal_plain n h =
-    decimal_by_steps (λ n ds. All (λ b. kind_of b ≡ Plain) ds)
+    decimal_by_steps (λ n ds. AllByRecursion (λ b. kind_of b ≡ Plain) ds)
     (λ n l. (digit_plain n l, tt))
     (λ n ds l a. All-push (λ b. kind_of b ≡ Plain) ds (48 + n % 10) a (digit_plain (n % 10) (omega arith)))
     n h
@@ -135,17 +135,17 @@ sign_colon = (Sign, (58, refl, refl))
 line_end : TokenLike (codes "\n")
 line_end = (Line, refl)
 
-test_proper : (sc : Scope) (t : Test) (p : List Text) → TestSays sc t p → All TokenLike p
-test_proper sc (tests.Named x n) p h = subst (All TokenLike) (sym h.4) (lit_name, (variable_proper x, (name_proper h.0 h.1, tt)))
-test_proper sc (tests.OwnerNamed x n) p h = subst (All TokenLike) (sym h.4) (lit_in, (variable_proper x, (name_proper h.0 h.1, tt)))
-test_proper sc (tests.Bound x y) p h = subst (All TokenLike) (sym h.2) (lit_bound, (variable_proper x, (variable_proper y, tt)))
-test_proper sc (tests.Child x y) p h = subst (All TokenLike) (sym h.2) (lit_child, (variable_proper x, (variable_proper y, tt)))
-test_proper sc (tests.Same x y) p h = subst (All TokenLike) (sym h.2) (lit_same, (variable_proper x, (variable_proper y, tt)))
-test_proper sc (tests.Up x) p h = subst (All TokenLike) (sym h.1) (lit_up, (variable_proper x, tt))
-test_proper sc (tests.AtMostNumber x z) p h = subst (All TokenLike) (sym h.2) (lit_atmost, (variable_proper x, (number_proper z h.1, tt)))
-test_proper sc (tests.AtMost x y) p h = subst (All TokenLike) (sym h.2) (lit_atmost, (variable_proper x, (variable_proper y, tt)))
+test_proper : (sc : Scope) (t : Test) (p : List Text) → TestSays sc t p → AllByRecursion TokenLike p
+test_proper sc (tests.Named x n) p h = subst (AllByRecursion TokenLike) (sym h.4) (lit_name, (variable_proper x, (name_proper h.0 h.1, tt)))
+test_proper sc (tests.OwnerNamed x n) p h = subst (AllByRecursion TokenLike) (sym h.4) (lit_in, (variable_proper x, (name_proper h.0 h.1, tt)))
+test_proper sc (tests.Bound x y) p h = subst (AllByRecursion TokenLike) (sym h.2) (lit_bound, (variable_proper x, (variable_proper y, tt)))
+test_proper sc (tests.Child x y) p h = subst (AllByRecursion TokenLike) (sym h.2) (lit_child, (variable_proper x, (variable_proper y, tt)))
+test_proper sc (tests.Same x y) p h = subst (AllByRecursion TokenLike) (sym h.2) (lit_same, (variable_proper x, (variable_proper y, tt)))
+test_proper sc (tests.Up x) p h = subst (AllByRecursion TokenLike) (sym h.1) (lit_up, (variable_proper x, tt))
+test_proper sc (tests.AtMostNumber x z) p h = subst (AllByRecursion TokenLike) (sym h.2) (lit_atmost, (variable_proper x, (number_proper z h.1, tt)))
+test_proper sc (tests.AtMost x y) p h = subst (AllByRecursion TokenLike) (sym h.2) (lit_atmost, (variable_proper x, (variable_proper y, tt)))
 
-reads_proper : {sc : Scope} {l : Level} {n : ℕ} {p : List Text} {f : Form} → Reads sc l n p f → All TokenLike p
+reads_proper : {sc : Scope} {l : Level} {n : ℕ} {p : List Text} {f : Form} → Reads sc l n p f → AllByRecursion TokenLike p
 reads_proper {sc} {p = p} (a_test {t = t} h) = test_proper sc t p h
 reads_proper (a_group {p = p} r) = (sign_open, All-append TokenLike p (codes ")" ∷ []) (reads_proper r) (sign_close, tt))
 reads_proper (a_plain r) = reads_proper r
@@ -155,17 +155,17 @@ reads_proper (and_tight {p = p} {q = q} r s) = All-append TokenLike p (codes "&"
 reads_proper (one_loose r) = reads_proper r
 reads_proper (or_loose {p = p} {q = q} r s) = All-append TokenLike p (codes "|" ∷ q) (reads_proper r) (sign_or, reads_proper s)
 
-inner_proper : (c : Option Binder) → All TokenLike (inner_text c)
+inner_proper : (c : Option Binder) → AllByRecursion TokenLike (inner_text c)
 inner_proper None = tt
 inner_proper (Some c) = (quantifier_proper c.quantifier, (lit_w, (sign_colon, (kind_proper c.kind, tt))))
 
-pub rule_proper : (p : List Text) → IsRule p → All (λ t. (d : Class) × Proper d t) p
+pub rule_proper : (p : List Text) → IsRule p → AllByRecursion (λ t. (d : Class) × Proper d t) p
 rule_proper p r =
     let b = r.0 in
     let c = r.1 in
     let h = r.3 in
     let end = All-append TokenLike h.tests (codes "\n" ∷ []) (reads_proper h.reads) (line_end, tt) in
-    subst (All TokenLike) (sym h.words)
+    subst (AllByRecursion TokenLike) (sym h.words)
     (All-append TokenLike (binder_text b c) (codes ":" ∷ (h.tests ++ (codes "\n" ∷ [])))
     (opening_proper b.quantifier, (lit_v, (sign_colon, (kind_proper b.kind, inner_proper c))))
     (sign_colon, end))

@@ -1,6 +1,6 @@
 -- One line more: the words of a book with a line behind them are a book again.
 use Rattle.std.proofs.Common.{◌≡◌, ℕ, suc, ◌+◌, ◌<◌, ◌≤◌, List, [], ◌∷◌, ◌++◌, length, vec_items, codes, decimal, sym, refl, ap, ◌∙◌, subst, append_assoc, append-nil, arith, length-append}
-use Rattle.std.specs.List.{AllByRecursion as All}
+use Rattle.std.specs.List.{AllByRecursion}
 use Rattle.std.proofs.ByRecursion.{All-push, All-weaker}
 use Rattle.ftpl.specs.declared.books.Book.{Book}
 use Rattle.book_text.specs.Rules.{Text, PropertySays, form}
@@ -120,10 +120,10 @@ module _ (b : Book) (p : List Text) (s : BookSays b p) where
   pub as_listed : listed_in b ≡ counted (length s.props) (vec_items b.conditions) (length s.forms)
   as_listed = λ i. counted (many i) (vec_items b.conditions) (formulas_many i)
 
-  pub all_properties : All IsProperty s.props
+  pub all_properties : AllByRecursion IsProperty s.props
   all_properties = each_all PropertySays IsProperty (λ x q h. (x.outer, x.inner, form x.tests, h)) (vec_items b.properties) s.props s.properties
 
-  pub all_formulas : All (IsFormula (length s.props)) s.forms
+  pub all_formulas : AllByRecursion (IsFormula (length s.props)) s.forms
   all_formulas = each_all (FormulaSays (length s.props)) (IsFormula (length s.props)) (λ x q h. (h.0, h.1, h.2)) (vec_items b.formulas) s.forms s.formulas
 
   pub some_book : IsBook p
@@ -137,7 +137,7 @@ module _ (b : Book) (p : List Text) (s : BookSays b p) where
         by : (h : Head) → HeadSays (counted (length s.props) (vec_items b.conditions) (length s.forms)) h t → Body (length s.props) h q → IsBook (p ++ (t ∷ q))
         by Property a r =
             let none = no_length s.forms a.1 in
-            record { props = s.props ++ (q ∷ []); holds = vec_items b.conditions; forms = s.forms; properties = All-push IsProperty s.props q all_properties r; formulas = subst (All (IsFormula (length (s.props ++ (q ∷ []))))) (sym none) tt; lines = lines_more Property s.props (vec_items b.conditions) s.forms p q t s.lines a tt }
+            record { props = s.props ++ (q ∷ []); holds = vec_items b.conditions; forms = s.forms; properties = All-push IsProperty s.props q all_properties r; formulas = subst (AllByRecursion (IsFormula (length (s.props ++ (q ∷ []))))) (sym none) tt; lines = lines_more Property s.props (vec_items b.conditions) s.forms p q t s.lines a tt }
         by (Condition n) a r =
             record { props = s.props; holds = vec_items b.conditions ++ (n ∷ []); forms = s.forms; properties = all_properties; formulas = all_formulas; lines = lines_more (Condition n) s.props (vec_items b.conditions) s.forms p q t s.lines a r }
         by Formula a r =

@@ -1,6 +1,6 @@
 -- The three groups of lines of a book go on one after the other.
 use Rattle.std.proofs.Common.{◌≡◌, ℕ, suc, ◌+◌, ◌^◌, ◌<◌, ◌≤◌, List, [], ◌∷◌, ◌++◌, length, codes, decimal, sym, refl, ap, ◌∙◌, subst, append_assoc, arith}
-use Rattle.std.specs.List.{AllByRecursion as All}
+use Rattle.std.specs.List.{AllByRecursion}
 use Rattle.book_words.specs.declared.bytes.Class.{Class}
 use Rattle.book_words.specs.Layout.{Proper}
 use Rattle.book_text.specs.Rules.{Text}
@@ -17,21 +17,21 @@ use Rattle.whole_book.proofs.Going.{Goes, none, line, goes_on, lines_proper}
 abbrev pub listing : ℕ → ℕ → ℕ → ℕ → Listed
 listing k c l f = record { properties = k; conditions = c; last = l; formulas = f }
 
-properties_go : (k : ℕ) (qs : List (List Text)) → All IsProperty qs → k + length qs ≤ 64 → Goes (listing k 0 0 0) (numbered (codes "prop=") (k + 1) qs) (listing (k + length qs) 0 0 0)
+properties_go : (k : ℕ) (qs : List (List Text)) → AllByRecursion IsProperty qs → k + length qs ≤ 64 → Goes (listing k 0 0 0) (numbered (codes "prop=") (k + 1) qs) (listing (k + length qs) 0 0 0)
 properties_go k [] h s = subst (λ z. Goes (listing k 0 0 0) [] (listing z 0 0 0)) (omega arith) none
 properties_go k (q ∷ qs) h s =
     let e : k + 1 + length qs ≡ k + length (q ∷ qs) = omega arith in
     let a : Line (listing k 0 0 0) ((codes "prop=" ++ decimal (k + 1)) ∷ q) (listing (k + 1) 0 0 0) = record { head = Property; word = codes "prop=" ++ decimal (k + 1); body = q; announced = (refl, refl, omega arith, refl); rest = h.0; words = refl; then = refl } in
     subst (λ z. Goes (listing k 0 0 0) (numbered (codes "prop=") (k + 1) (q ∷ qs)) (listing z 0 0 0)) e (line a (properties_go (k + 1) qs h.1 (omega arith)))
 
-conditions_go : (k c l : ℕ) (ns : List ℕ) → Rising l ns → All (λ n. n ≤ k) ns → c + length ns ≤ 16 → Goes (listing k c l 0) (held ns) (listing k (c + length ns) (last_from l ns) 0)
+conditions_go : (k c l : ℕ) (ns : List ℕ) → Rising l ns → AllByRecursion (λ n. n ≤ k) ns → c + length ns ≤ 16 → Goes (listing k c l 0) (held ns) (listing k (c + length ns) (last_from l ns) 0)
 conditions_go k c l [] r h s = subst (λ z. Goes (listing k c l 0) [] (listing k z l 0)) (omega arith) none
 conditions_go k c l (n ∷ ns) r h s =
     let e : c + 1 + length ns ≡ c + length (n ∷ ns) = omega arith in
     let a : Line (listing k c l 0) ((codes "hold=" ++ decimal n) ∷ codes "\n" ∷ []) (listing k (c + 1) n 0) = record { head = Condition n; word = codes "hold=" ++ decimal n; body = codes "\n" ∷ []; announced = (refl, omega arith, r.0, h.0, refl); rest = refl; words = refl; then = refl } in
     subst (λ z. Goes (listing k c l 0) (held (n ∷ ns)) (listing k z (last_from n ns) 0)) e (line a (conditions_go k (c + 1) n ns r.1 h.1 (omega arith)))
 
-formulas_go : (k c l f : ℕ) (qs : List (List Text)) → All (IsFormula k) qs → f + length qs ≤ 32 → Goes (listing k c l f) (numbered (codes "form=") (f + 1) qs) (listing k c l (f + length qs))
+formulas_go : (k c l f : ℕ) (qs : List (List Text)) → AllByRecursion (IsFormula k) qs → f + length qs ≤ 32 → Goes (listing k c l f) (numbered (codes "form=") (f + 1) qs) (listing k c l (f + length qs))
 formulas_go k c l f [] h s = subst (λ z. Goes (listing k c l f) [] (listing k c l z)) (omega arith) none
 formulas_go k c l f (q ∷ qs) h s =
     let e : f + 1 + length qs ≡ f + length (q ∷ qs) = omega arith in
@@ -43,7 +43,7 @@ formulas_go k c l f (q ∷ qs) h s =
 abbrev pub nothing : Listed
 nothing = listing 0 0 0 0
 
-pub book_goes : (props : List (List Text)) (holds : List ℕ) (forms : List (List Text)) (p : List Text) → All IsProperty props → All (IsFormula (length props)) forms → LinesSay props holds forms p → Goes nothing p (counted (length props) holds (length forms))
+pub book_goes : (props : List (List Text)) (holds : List ℕ) (forms : List (List Text)) (p : List Text) → AllByRecursion IsProperty props → AllByRecursion (IsFormula (length props)) forms → LinesSay props holds forms p → Goes nothing p (counted (length props) holds (length forms))
 book_goes props holds forms p h k s =
     let a = properties_go 0 props h (omega (arith, s.few_properties)) in
     let b = conditions_go (length props) 0 0 holds s.rising s.listed (omega (arith, s.few_conditions)) in
@@ -57,5 +57,5 @@ pub is_book_goes : (p : List Text) → IsBook p → (τ : Listed) × Goes nothin
 is_book_goes p b = (counted (length b.props) b.holds (length b.forms), book_goes b.props b.holds b.forms p b.properties b.formulas b.lines)
 
 -- the words of a book can be laid out
-pub book_proper : (p : List Text) → IsBook p → All (λ t. (c : Class) × Proper c t) p
+pub book_proper : (p : List Text) → IsBook p → AllByRecursion (λ t. (c : Class) × Proper c t) p
 book_proper p b = lines_proper (omega arith) (is_book_goes p b).1

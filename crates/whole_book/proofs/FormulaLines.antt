@@ -1,6 +1,6 @@
 -- The words of a rule are a line: words and signs up to its end.
 use Rattle.std.proofs.Common.{◌≡◌, ℕ, ◌^◌, ◌<◌, ◌≤◌, ◌⊎◌, List, [], ◌∷◌, ◌++◌, codes, decimal, sym, refl, ap, ◌∙◌, subst, inl, inr, ⊎_elim, append_assoc, arith}
-use Rattle.std.specs.List.{AllByRecursion as All}
+use Rattle.std.specs.List.{AllByRecursion}
 use Rattle.std.proofs.ByRecursion.{All-append}
 use Rattle.ftpl.specs.declared.formulas.EventList.{EventList}
 use Rattle.ftpl.specs.declared.formulas.Leaf.{Leaf}
@@ -41,15 +41,15 @@ until_inside = word_inside _ _ (refl, (refl, (refl, (refl, (refl, tt)))))
 rule_inside : Inside (codes "rule=")
 rule_inside = word_inside _ _ (refl, (refl, (refl, (refl, (refl, tt)))))
 
-listing_inside : {e f : EventList} {p : List Text} → Listing e p f → All Inside p
+listing_inside : {e f : EventList} {p : List Text} → Listing e p f → AllByRecursion Inside p
 listing_inside (a_last k w l m) = (decimal_inside k (omega arith), (event_inside w, (inl (93, refl, refl), tt)))
 listing_inside (a_more k w l m r) = (decimal_inside k (omega arith), (event_inside w, (inl (44, refl, refl), listing_inside r)))
 
-list_inside : {e : EventList} {p : List Text} → ListSays e p → All Inside p
-list_inside h = subst (All Inside) (sym h.2) (inl (91, refl, refl), listing_inside h.1)
+list_inside : {e : EventList} {p : List Text} → ListSays e p → AllByRecursion Inside p
+list_inside h = subst (AllByRecursion Inside) (sym h.2) (inl (91, refl, refl), listing_inside h.1)
 
 module _ {n : ℕ} (small : n < 2 ^ 64) where
-  reads_inside : {l : Level} {d : ℕ} {p : List Text} {f : Tree Leaf} → Reads n l d p f → All Inside p
+  reads_inside : {l : Level} {d : ℕ} {p : List Text} {f : Tree Leaf} → Reads n l d p f → AllByRecursion Inside p
   reads_inside (a_leaf m w l k) = (inr (leaf_proper w), (decimal_inside m (omega arith), tt))
   reads_inside (a_group {p = p} r) = (inl (40, refl, refl), All-append Inside p (codes ")" ∷ []) (reads_inside r) (inl (41, refl, refl), tt))
   reads_inside (one_tight r) = reads_inside r
@@ -57,14 +57,14 @@ module _ {n : ℕ} (small : n < 2 ^ 64) where
   reads_inside (one_loose r) = reads_inside r
   reads_inside (or_loose {p = p} {q = q} r s) = All-append Inside p (codes "|" ∷ q) (reads_inside r) (inl (124, refl, refl), reads_inside s)
 
-  core_inside : (f : CoreOf Leaf) (p : List Text) → CoreSays n f p → All Inside p
+  core_inside : (f : CoreOf Leaf) (p : List Text) → CoreSays n f p → AllByRecursion Inside p
   core_inside (just f) p h = reads_inside h.reads
-  core_inside (before e f) p h = subst (All Inside) (sym h.4) (inr before_proper, All-append Inside h.0 h.1 (list_inside h.2) (reads_inside h.3.reads))
-  core_inside (until f e) p h = subst (All Inside) (sym h.4) (All-append Inside h.0 (codes "until" ∷ h.1) (reads_inside h.2.reads) (until_inside, list_inside h.3))
+  core_inside (before e f) p h = subst (AllByRecursion Inside) (sym h.4) (inr before_proper, All-append Inside h.0 h.1 (list_inside h.2) (reads_inside h.3.reads))
+  core_inside (until f e) p h = subst (AllByRecursion Inside) (sym h.4) (All-append Inside h.0 (codes "until" ∷ h.1) (reads_inside h.2.reads) (until_inside, list_inside h.3))
 
-  afters_inside : (es : List EventList) (p : List Text) → AftersSay es p → All Inside p
-  afters_inside [] p h = subst (All Inside) (sym h) tt
-  afters_inside (e ∷ es) p h = subst (All Inside) (sym h.4) (inr after_proper, All-append Inside h.0 h.1 (list_inside h.2) (afters_inside es h.1 h.3))
+  afters_inside : (es : List EventList) (p : List Text) → AftersSay es p → AllByRecursion Inside p
+  afters_inside [] p h = subst (AllByRecursion Inside) (sym h) tt
+  afters_inside (e ∷ es) p h = subst (AllByRecursion Inside) (sym h.4) (inr after_proper, All-append Inside h.0 h.1 (list_inside h.2) (afters_inside es h.1 h.3))
 
   line_lined : {es : List EventList} {f : CoreOf Leaf} {p : List Text} → LineSays n es f p → Lined p
   line_lined {es} {f} h =
@@ -102,7 +102,7 @@ module _ {n : ℕ} (small : n < 2 ^ 64) where
   line_begun {es} {f} h = subst Begun (sym h.words) (afters_begun es h.afters (h.core ++ (codes "\n" ∷ [])) h.after (begun_on h.core (codes "\n" ∷ []) (core_begun f h.core h.says)))
 
   -- `rule=` in front of a line's first word
-  first_lined : (t : Text) (p f : List Text) → Proper Word t → All Inside f → t ∷ p ≡ f ++ (codes "\n" ∷ []) → Lined ((codes "rule=" ++ t) ∷ p)
+  first_lined : (t : Text) (p f : List Text) → Proper Word t → AllByRecursion Inside f → t ∷ p ≡ f ++ (codes "\n" ∷ []) → Lined ((codes "rule=" ++ t) ∷ p)
   first_lined t p [] h k e = absurd (inside_not t (inr h) (cc))
   first_lined t p (x ∷ f) h k e =
       let q : p ≡ f ++ (codes "\n" ∷ []) = cc in

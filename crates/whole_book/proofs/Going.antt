@@ -1,6 +1,6 @@
 -- Lines one after the other: where a line may stand next, and that they are found again.
 use Rattle.std.proofs.Common.{◌≡◌, ℕ, suc, ◌+◌, ◌^◌, ◌<◌, ◌≤◌, List, [], ◌∷◌, ◌++◌, length, codes, decimal, sym, refl, ap, ◌∙◌, subst, append_assoc, arith}
-use Rattle.std.specs.List.{AllByRecursion as All}
+use Rattle.std.specs.List.{AllByRecursion}
 use Rattle.std.proofs.lemmas.List.{append_cancel_left}
 use Rattle.std.proofs.ByRecursion.{All-append}
 use Rattle.std.proofs.lemmas.Fmt.{decimal_injective}
@@ -81,6 +81,6 @@ pub rest_goes : {σ τ υ : Listed} {d : List Text} → σ.properties ≤ 64 →
 rest_goes s g x h = cancel s g x h refl
 
 -- the words of lines can be laid out
-pub lines_proper : {σ τ : Listed} {d : List Text} → σ.properties ≤ 64 → Goes σ d τ → All (λ t. (c : Class) × Proper c t) d
+pub lines_proper : {σ τ : Listed} {d : List Text} → σ.properties ≤ 64 → Goes σ d τ → AllByRecursion (λ t. (c : Class) × Proper c t) d
 lines_proper s none = tt
 lines_proper s (line {l = l} {p = p} a g) = All-append (λ t. (c : Class) × Proper c t) l p (lined_proper (line_lined s a)) (lines_proper (still_few s a) g)

@@ -1,6 +1,6 @@
 -- Lines: words and signs, and then the end of the line.
 use Rattle.std.proofs.Common.{◌≡◌, ℕ, ◌+◌, ◌%◌, ◌^◌, ◌<◌, ◌≤◌, Bool, true, false, cond, ◌&&◌, ◌||◌, eqb, ◌⊎◌, List, [], ◌∷◌, ◌++◌, length, codes, decimal, sym, refl, ap, ◌∙◌, subst, inl, inr, ⊎_elim, true≢false, append_assoc, arith, length-append}
-use Rattle.std.specs.List.{AllByRecursion as All}
+use Rattle.std.specs.List.{AllByRecursion}
 use Rattle.std.proofs.ByRecursion.{All-append, All-push, All-weaker}
 use Rattle.std.proofs.lemmas.Fmt.{decimal_by_steps, decimal_nonempty}
 use Rattle.std.proofs.lemmas.Bool.{ne_eqb}
@@ -18,7 +18,7 @@ Inside t = Proper Sign t ⊎ Proper Word t
 -- a line: signs and words up to its end
 pub record Lined (p : List (List ℕ)) : Type 0 where
   pub front : List (List ℕ)
-  pub inside : All Inside front
+  pub inside : AllByRecursion Inside front
   pub words : p ≡ front ++ (codes "\n" ∷ [])
 
 plain_from : (b : ℕ) → eqb b 32 ≡ false → eqb b 10 ≡ false → is_sign b ≡ false → kind_of b ≡ Plain
@@ -33,9 +33,9 @@ apart b h p q r s =
 digit_plain : (n : ℕ) → n < 10 → kind_of (48 + n) ≡ Plain
 digit_plain n h = apart (48 + n) (omega arith) (λ z. omega arith) (λ z. omega arith) (λ z. omega arith) (λ z. omega arith)
 
-pub decimal_plain : (n : ℕ) → n < 2 ^ 64 → All (λ b. kind_of b ≡ Plain) (decimal n)
+pub decimal_plain : (n : ℕ) → n < 2 ^ 64 → AllByRecursion (λ b. kind_of b ≡ Plain) (decimal n)
 decimal_plain n h =
-    decimal_by_steps (λ n ds. All (λ b. kind_of b ≡ Plain) ds)
+    decimal_by_steps (λ n ds. AllByRecursion (λ b. kind_of b ≡ Plain) ds)
     (λ n l. (digit_plain n l, tt))
     (λ n ds l a. All-push (λ b. kind_of b ≡ Plain) ds (48 + n % 10) a (digit_plain (n % 10) (omega arith)))
     n h
@@ -45,14 +45,14 @@ pub decimal_inside : (n : ℕ) → n < 2 ^ 64 → Inside (decimal n)
 decimal_inside n l = inr (λ e. omega (arith, ap length e, decimal_nonempty n l), decimal_plain n l)
 
 -- and so is one behind some plain bytes
-pub keyed_inside : (key : List ℕ) (n : ℕ) → n < 2 ^ 64 → All (λ b. kind_of b ≡ Plain) key → Inside (key ++ decimal n)
+pub keyed_inside : (key : List ℕ) (n : ℕ) → n < 2 ^ 64 → AllByRecursion (λ b. kind_of b ≡ Plain) key → Inside (key ++ decimal n)
 keyed_inside key n l h = inr (λ e. omega (arith, ap length e, length-append key (decimal n), decimal_nonempty n l), All-append (λ b. kind_of b ≡ Plain) key (decimal n) h (decimal_plain n l))
 
 -- bytes of which each is plain, by a test that computes
-pub word_proper : (b : ℕ) (t : List ℕ) → All (λ b. kind_of b ≡ Plain) (b ∷ t) → Proper Word (b ∷ t)
+pub word_proper : (b : ℕ) (t : List ℕ) → AllByRecursion (λ b. kind_of b ≡ Plain) (b ∷ t) → Proper Word (b ∷ t)
 word_proper b t h = ((λ e. let z : ◌≡◌ {A = ℕ} 0 1 = cc in omega arith), h)
 
-pub word_inside : (b : ℕ) (t : List ℕ) → All (λ b. kind_of b ≡ Plain) (b ∷ t) → Inside (b ∷ t)
+pub word_inside : (b : ℕ) (t : List ℕ) → AllByRecursion (λ b. kind_of b ≡ Plain) (b ∷ t) → Inside (b ∷ t)
 word_inside b t h = inr (word_proper b t h)
 
 -- a sign or a word does not end a line
@@ -62,7 +62,7 @@ inside_not [] (inr h) e = h.0 refl
 inside_not (b ∷ t) (inr h) e = let q : b ≡ 10 = cc in not_plain_10 (subst (λ z. kind_of z ≡ Plain) q h.1.0)
 
 -- what has no line's end, and then one, is found again
-pub one_end : (f g x y : List (List ℕ)) → All (λ t. t ≡ codes "\n" → ⊥) f → All (λ t. t ≡ codes "\n" → ⊥) g → f ++ (codes "\n" ∷ x) ≡ g ++ (codes "\n" ∷ y) → (f ≡ g) × (x ≡ y)
+pub one_end : (f g x y : List (List ℕ)) → AllByRecursion (λ t. t ≡ codes "\n" → ⊥) f → AllByRecursion (λ t. t ≡ codes "\n" → ⊥) g → f ++ (codes "\n" ∷ x) ≡ g ++ (codes "\n" ∷ y) → (f ≡ g) × (x ≡ y)
 one_end [] [] x y h k e = (refl, cc)
 one_end [] (t ∷ g) x y h k e = absurd (k.0 (cc))
 one_end (t ∷ f) [] x y h k e = absurd (h.0 (cc))
@@ -72,7 +72,7 @@ one_end (t ∷ f) (u ∷ g) x y h k e =
     let r = one_end f g x y h.1 k.1 q in
     (λ i. p i ∷ r.0 i, r.1)
 
-pub front_clear : {p : List (List ℕ)} (l : Lined p) → All (λ t. t ≡ codes "\n" → ⊥) l.front
+pub front_clear : {p : List (List ℕ)} (l : Lined p) → AllByRecursion (λ t. t ≡ codes "\n" → ⊥) l.front
 front_clear l = All-weaker Inside (λ t. t ≡ codes "\n" → ⊥) inside_not l.front l.inside
 
 pub end_apart : (f x : List (List ℕ)) → (f ++ (codes "\n" ∷ [])) ++ x ≡ f ++ (codes "\n" ∷ x)
@@ -90,7 +90,7 @@ inside_proper t (inl h) = (Sign, h)
 inside_proper t (inr h) = (Word, h)
 
 -- the words of a line can be laid out
-pub lined_proper : {p : List (List ℕ)} → Lined p → All (λ t. (d : Class) × Proper d t) p
+pub lined_proper : {p : List (List ℕ)} → Lined p → AllByRecursion (λ t. (d : Class) × Proper d t) p
 lined_proper l =
     let P : List ℕ → Type 0 = λ t. (d : Class) × Proper d t in
-    subst (All P) (sym l.words) (All-append P l.front (codes "\n" ∷ []) (All-weaker Inside P inside_proper l.front l.inside) ((Line, refl), tt))
+    subst (AllByRecursion P) (sym l.words) (All-append P l.front (codes "\n" ∷ []) (All-weaker Inside P inside_proper l.front l.inside) ((Line, refl), tt))

@@ -1,6 +1,6 @@
 -- Lists of words, and relations between two lists.
 use Rattle.std.proofs.Common.{◌≡◌, ℕ, ◌+◌, ◌<◌, ◌≤◌, ◌⊎◌, List, [], ◌∷◌, ◌++◌, length, sym, refl, ap, ◌∙◌, subst, inl, inr, ⊎_elim, arith}
-use Rattle.std.specs.List.{AllByRecursion as All}
+use Rattle.std.specs.List.{AllByRecursion}
 use Rattle.whole_book.specs.Books.{Each}
 
 -- of two fronts of a list one goes on to the other
@@ -29,7 +29,7 @@ module _ {A B : Type 0} (R : A → B → Type 0) where
   each_length (u ∷ xs) [] h = absurd h
   each_length (u ∷ xs) (v ∷ ys) h = omega (arith, each_length xs ys h.1)
 
-  pub each_all : (P : B → Type 0) → ((x : A) (y : B) → R x y → P y) → (xs : List A) (ys : List B) → Each R xs ys → All P ys
+  pub each_all : (P : B → Type 0) → ((x : A) (y : B) → R x y → P y) → (xs : List A) (ys : List B) → Each R xs ys → AllByRecursion P ys
   each_all P f [] [] h = tt
   each_all P f [] (v ∷ ys) h = absurd h
   each_all P f (u ∷ xs) [] h = absurd h

@@ -2,7 +2,7 @@
 use Rattle.std.proofs.Common.{◌≡◌, ℕ, suc, ◌+◌, ◌/◌, ◌%◌, ◌^◌, ◌<◌, ◌≤◌, Bool, true, false, cond, ◌&&◌, ◌||◌, eqb, leb, ◌⊎◌, List, [], ◌∷◌, ◌++◌, length, ℤ, pos, negsuc, Some, None, codes, decimal, Option, sym, refl, ap, ◌∙◌, subst, inl, inr, ⊎_elim, true≢false, append_assoc, arith}
 use borrow.Author.Differences.{ints}
 use Rattle.std.specs.Fmt.{signed_decimal}
-use Rattle.std.specs.List.{AllByRecursion as All}
+use Rattle.std.specs.List.{AllByRecursion}
 use Rattle.std.proofs.ByRecursion.{All-append, All-weaker}
 use Rattle.std.proofs.lemmas.Fmt.{decimal_nonempty}
 use Rattle.std.proofs.lemmas.Bool.{and_parts, or_cases, leb-true}
@@ -107,17 +107,17 @@ sign_or = inl (124, refl, refl)
 sign_colon : Inside (codes ":")
 sign_colon = inl (58, refl, refl)
 
-test_proper : (sc : Scope) (t : Test) (p : List Text) → TestSays sc t p → All Inside p
-test_proper sc (tests.Named x n) p h = subst (All Inside) (sym h.4) (lit_name, (variable_proper x, (name_proper h.0 h.1, tt)))
-test_proper sc (tests.OwnerNamed x n) p h = subst (All Inside) (sym h.4) (lit_in, (variable_proper x, (name_proper h.0 h.1, tt)))
-test_proper sc (tests.Bound x y) p h = subst (All Inside) (sym h.2) (lit_bound, (variable_proper x, (variable_proper y, tt)))
-test_proper sc (tests.Child x y) p h = subst (All Inside) (sym h.2) (lit_child, (variable_proper x, (variable_proper y, tt)))
-test_proper sc (tests.Same x y) p h = subst (All Inside) (sym h.2) (lit_same, (variable_proper x, (variable_proper y, tt)))
-test_proper sc (tests.Up x) p h = subst (All Inside) (sym h.1) (lit_up, (variable_proper x, tt))
-test_proper sc (tests.AtMostNumber x z) p h = subst (All Inside) (sym h.2) (lit_atmost, (variable_proper x, (number_proper z h.1, tt)))
-test_proper sc (tests.AtMost x y) p h = subst (All Inside) (sym h.2) (lit_atmost, (variable_proper x, (variable_proper y, tt)))
+test_proper : (sc : Scope) (t : Test) (p : List Text) → TestSays sc t p → AllByRecursion Inside p
+test_proper sc (tests.Named x n) p h = subst (AllByRecursion Inside) (sym h.4) (lit_name, (variable_proper x, (name_proper h.0 h.1, tt)))
+test_proper sc (tests.OwnerNamed x n) p h = subst (AllByRecursion Inside) (sym h.4) (lit_in, (variable_proper x, (name_proper h.0 h.1, tt)))
+test_proper sc (tests.Bound x y) p h = subst (AllByRecursion Inside) (sym h.2) (lit_bound, (variable_proper x, (variable_proper y, tt)))
+test_proper sc (tests.Child x y) p h = subst (AllByRecursion Inside) (sym h.2) (lit_child, (variable_proper x, (variable_proper y, tt)))
+test_proper sc (tests.Same x y) p h = subst (AllByRecursion Inside) (sym h.2) (lit_same, (variable_proper x, (variable_proper y, tt)))
+test_proper sc (tests.Up x) p h = subst (AllByRecursion Inside) (sym h.1) (lit_up, (variable_proper x, tt))
+test_proper sc (tests.AtMostNumber x z) p h = subst (AllByRecursion Inside) (sym h.2) (lit_atmost, (variable_proper x, (number_proper z h.1, tt)))
+test_proper sc (tests.AtMost x y) p h = subst (AllByRecursion Inside) (sym h.2) (lit_atmost, (variable_proper x, (variable_proper y, tt)))
 
-reads_proper : {sc : Scope} {l : Level} {n : ℕ} {p : List Text} {f : Form} → Reads sc l n p f → All Inside p
+reads_proper : {sc : Scope} {l : Level} {n : ℕ} {p : List Text} {f : Form} → Reads sc l n p f → AllByRecursion Inside p
 reads_proper {sc} {p = p} (a_test {t = t} h) = test_proper sc t p h
 reads_proper (a_group {p = p} r) = (sign_open, All-append Inside p (codes ")" ∷ []) (reads_proper r) (sign_close, tt))
 reads_proper (a_plain r) = reads_proper r
@@ -127,7 +127,7 @@ reads_proper (and_tight {p = p} {q = q} r s) = All-append Inside p (codes "&" �
 reads_proper (one_loose r) = reads_proper r
 reads_proper (or_loose {p = p} {q = q} r s) = All-append Inside p (codes "|" ∷ q) (reads_proper r) (sign_or, reads_proper s)
 
-inner_proper : (c : Option Binder) → All Inside (inner_text c)
+inner_proper : (c : Option Binder) → AllByRecursion Inside (inner_text c)
 inner_proper None = tt
 inner_proper (Some c) = (quantifier_proper c.quantifier, (lit_w, (sign_colon, (kind_proper c.kind, tt))))
 

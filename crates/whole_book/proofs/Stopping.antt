@@ -1,7 +1,7 @@
 -- Where a line stops being one, the words stop being a book.
 use Rattle.std.proofs.Common.{◌≡◌, ℕ, suc, ◌+◌, ◌-◌, ◌<◌, ◌≤◌, ◌⊎◌, List, [], ◌∷◌, ◌++◌, length, get_or, take, drop, vec_items, codes, sym, refl, ap, ◌∙◌, subst, inl, inr, ⊎_elim, append_assoc, append-nil, one-add, arith, length-append, length-drop, take-append-drop, get_or-append-add}
 use lib.Seq.{take-append-le, take-append_seam, take-append-add, get_or-append_seam}
-use Rattle.std.specs.List.{AllByRecursion as All}
+use Rattle.std.specs.List.{AllByRecursion}
 use Rattle.std.proofs.ByRecursion.{All-from_get_or}
 use Rattle.std.proofs.lemmas.List.{take_all, drop_all, drop_more, drop-drop, get_or_append_left, length-take-le}
 use Rattle.std.proofs.lemmas.Bool.{cases_lt}
@@ -31,7 +31,7 @@ use Rattle.whole_book.proofs.Adding.{few_listed, as_listed, all_properties, all_
 
 -- no line ends among the words
 abbrev Clear : List Text → Type 0
-Clear p = All (λ t. t ≡ codes "\n" → ⊥) p
+Clear p = AllByRecursion (λ t. t ≡ codes "\n" → ⊥) p
 
 -- the words behind the first of a line: they end the line, or the text goes on no further
 abbrev Rest : List Text → List Text → Type 0

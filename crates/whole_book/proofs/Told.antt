@@ -1,7 +1,7 @@
 -- From the first wrong one among the words of a text to the first wrong word of the text, and what that says of the text.
 use Rattle.std.proofs.Common.{◌≡◌, ℕ, ◌+◌, ◌≤◌, List, [], ◌∷◌, ◌++◌, length, take, drop, vec_items, sym, refl, ap, ◌∙◌, subst, ⊎_elim, append-nil, arith, take-append-drop}
 use lib.ListN.{length-map}
-use Rattle.std.specs.List.{AllByRecursion as All}
+use Rattle.std.specs.List.{AllByRecursion}
 use Rattle.std.proofs.lemmas.List.{take_all, drop-drop}
 use Rattle.std.proofs.lemmas.Bool.{cases_lt}
 use Rattle.book_words.specs.declared.bytes.ByteKind.TheVariants.{Plain}
@@ -18,7 +18,7 @@ use Rattle.whole_book.specs.Among.{WrongAt}
 use Rattle.book_words.proofs.Layouts.{not_sign, not_plain_10}
 use Rattle.book_words.proofs.Wrongs.{wrong_inside, wrong_behind}
 
-module _ (L : List (List ℕ) → Type 0) (proper : (p : List (List ℕ)) → L p → All (λ t. (d : Class) × Proper d t) p) (s : List ℕ) (w : Words) (k : Cutting s w) (xs : List Token) (q : xs ≡ vec_items w.tokens) (n : ℕ) (r : Token) (p : Points s (vec_items w.tokens) w.end w.class n r) where
+module _ (L : List (List ℕ) → Type 0) (proper : (p : List (List ℕ)) → L p → AllByRecursion (λ t. (d : Class) × Proper d t) p) (s : List ℕ) (w : Words) (k : Cutting s w) (xs : List Token) (q : xs ≡ vec_items w.tokens) (n : ℕ) (r : Token) (p : Points s (vec_items w.tokens) w.end w.class n r) where
   long : length (words_of (vec_items w.tokens)) ≡ length (vec_items w.tokens)
   long = length-map (vec_items w.tokens) (λ t. t.word.now)
 

@@ -6,8 +6,8 @@ use Rattle.book_text.proofs.Steps.{as_long}
 use Rattle.book_text.proofs.Binding.{not_opened, opening_inside, first_failed, one_failed, second_inside, second_failed, two_failed, one_taken, two_taken}
 use Rattle.book_text.proofs.rules.read_rule.Goals as goal
 
-pub returns-in-default : goal.returns-in-default
-returns-in-default c = not_opened (words_of c.args.tokens.now) c.args.at (omega (arith, as_long c.args.tokens.now, c.requires)) (ap opening_of (sym c.word_at.ensures) ∙ sym c.in-default.ensures)
+pub returns-in_default : goal.returns-in_default
+returns-in_default c = not_opened (words_of c.args.tokens.now) c.args.at (omega (arith, as_long c.args.tokens.now, c.requires)) (ap opening_of (sym c.word_at.ensures) ∙ sym c.in_default.ensures)
 
 pub bound_kind-requires : goal.bound_kind-requires
 bound_kind-requires c =
@@ -19,10 +19,10 @@ returns-in-Err c =
     first_failed (words_of c.args.tokens.now) c.args.at c.in-Some.quantifier (ap opening_of (sym c.word_at.ensures) ∙ sym c.in-Some.ensures) c.in-Err.wrong (c.in-Err.ensures None refl)
 
 pub rule_tests-requires : goal.rule_tests-requires
-rule_tests-requires c = (omega (arith, (c.in-Ok.ensures None refl).inside, as_long c.args.tokens.now), λ _. ap quantifier_of (sym c.word_at-2.ensures) ∙ sym c.in-default-as_quantifier.ensures)
+rule_tests-requires c = (omega (arith, (c.in-Ok.ensures None refl).inside, as_long c.args.tokens.now), λ _. ap quantifier_of (sym c.word_at-2.ensures) ∙ sym c.in_default-as_quantifier.ensures)
 
-pub returns-in-default-as_quantifier : goal.returns-in-default-as_quantifier
-returns-in-default-as_quantifier c =
+pub returns-in_default-as_quantifier : goal.returns-in_default-as_quantifier
+returns-in_default-as_quantifier c =
     let s = words_of c.args.tokens.now in
     let e = ap opening_of (sym c.word_at.ensures) ∙ sym c.in-Some.ensures in
     let w = c.in-Ok.ensures None refl in

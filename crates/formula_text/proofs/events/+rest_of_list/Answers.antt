@@ -10,14 +10,14 @@ use Rattle.formula_text.proofs.Steps.{rule_long}
 use Rattle.formula_text.proofs.Listed.{no_operation, no_saying, no_sign, last_took, more_took, more_stuck, comma_inside}
 use Rattle.formula_text.proofs.events.+rest_of_list.Goals as goal
 
-pub returns-in-default : goal.returns-in-default
-returns-in-default t c = λ n st.
-    no_operation n st c.args.list (rule_words c.args.tokens.now) c.args.at (omega (arith, rule_long c.args.tokens.now, c.requires)) (λ k h l e. c.in-default.ensures k h l (c.rule_word.ensures ∙ e))
+pub returns-in_default : goal.returns-in_default
+returns-in_default t c = λ n st.
+    no_operation n st c.args.list (rule_words c.args.tokens.now) c.args.at (omega (arith, rule_long c.args.tokens.now, c.requires)) (λ k h l e. c.in_default.ensures k h l (c.rule_word.ensures ∙ e))
 
-pub returns-in-default-as_event : goal.returns-in-default-as_event
-returns-in-default-as_event t c = λ n st.
+pub returns-in_default-as_event : goal.returns-in_default-as_event
+returns-in_default-as_event t c = λ n st.
     let r = c.in-Some.ensures in
-    no_saying n st c.args.list (rule_words c.args.tokens.now) c.args.at c.in-Some.operation r.0 r.1 (sym c.rule_word.ensures ∙ r.2) (ap event_of (sym c.rule_word-2.ensures) ∙ sym c.in-default-as_event.ensures)
+    no_saying n st c.args.list (rule_words c.args.tokens.now) c.args.at c.in-Some.operation r.0 r.1 (sym c.rule_word.ensures ∙ r.2) (ap event_of (sym c.rule_word-2.ensures) ∙ sym c.in_default-as_event.ensures)
 
 pub rest_of_list-requires : goal.rest_of_list-requires
 rest_of_list-requires t c =
