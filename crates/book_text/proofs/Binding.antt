@@ -1,5 +1,5 @@
 -- Quantifiers that were read, or the word at which they stopped.
-use Rattle.std.proofs.Common.{◌≡◌, ℕ, ◌+◌, ◌-◌, ◌<◌, ◌≤◌, Bool, true, false, cond, List, [], ◌∷◌, ◌++◌, length, get_or, Some, None, codes, Option, sym, refl, ap, ◌∙◌, subst, true≢false, append_assoc, append-nil, arith}
+use Rattle.std.proofs.Common.{◌≡◌, ℕ, ◌+◌, ◌<◌, ◌≤◌, true, false, cond, List, [], ◌∷◌, ◌++◌, length, get_or, Some, None, codes, Option, sym, refl, ap, ◌∙◌, subst, arith}
 use Rattle.std.specs.Str.{bytes_eq}
 use Rattle.std.proofs.lemmas.Bool.{cond-true, cond-false}
 use Rattle.ftpl.specs.declared.properties.Quantifier.{Quantifier}
@@ -9,16 +9,15 @@ use Rattle.ftpl.specs.declared.properties.VariableKind.TheVariants.{Component, P
 use Rattle.ftpl.specs.declared.properties.Binder.{Binder}
 use Rattle.book_text.specs.declared.parts.Part.{Part}
 use Rattle.book_text.specs.declared.parts.Stop.{Stop}
-use Rattle.book_text.specs.declared.parts.Stop.TheVariants.{Wrong, Memory}
 use Rattle.book_text.specs.declared.rules.Rule.{Rule}
 use Rattle.book_text.specs.declared.scopes.Scope.{Scope}
-use Rattle.book_text.specs.Rules.{Text, Reads, loose, form, leaves, scope_of, inner_kind, inner_text, binder_text, RuleSays}
+use Rattle.book_text.specs.Rules.{Text, loose, form, scope_of, inner_kind, binder_text, RuleSays}
 use Rattle.book_words.specs.Cuts.{part}
-use Rattle.book_text.specs.States.{State, dead, ended, opening, naming, parting, kinding, scoped, turning, done, name_of_next, extended, another, after, step, run, Stuck}
+use Rattle.book_text.specs.States.{dead, opening, naming, parting, kinding, scoped, turning, name_of_next, extended, another, after, step, run, Stuck}
 use Rattle.book_text.specs.Took.{Bound, Took, Failed, TestsTaken, RuleTaken}
 use Rattle.book_text.specs.Words.{kinds, kind_text, kind_of, quantifiers, quantifier_text, quantifier_of, opening_text, opening_of}
 use Rattle.book_text.proofs.Lexical.{spelt_says}
-use Rattle.book_text.proofs.Complete.{run_append, start}
+use Rattle.book_text.proofs.Complete.{run_append}
 use Rattle.book_words.proofs.Parting.{part_join, part_none}
 use Rattle.book_text.proofs.Steps.{mid_first, mid_one, stands, begun, stuck_here, stuck_step, stuck_after, failed_after, failed_step, took_run, stops_outside}
 

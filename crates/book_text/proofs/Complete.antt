@@ -1,14 +1,12 @@
 -- The words of a rule lead from the first state to the last.
-use Rattle.std.proofs.Common.{◌≡◌, ℕ, zero, suc, ◌+◌, ◌-◌, ◌<◌, ◌≤◌, Bool, true, false, cond, ◌&&◌, ◌||◌, eqb, ltb, leb, List, [], ◌∷◌, ◌++◌, is_some, Some, None, codes, Option, sym, refl, ap, ◌∙◌, subst, true≢false, append_assoc, add_assoc, arith}
+use Rattle.std.proofs.Common.{◌≡◌, ℕ, ◌+◌, ◌-◌, ◌<◌, ◌≤◌, Bool, true, ltb, List, [], ◌∷◌, ◌++◌, is_some, Some, None, codes, Option, sym, refl, ap, ◌∙◌, subst, append_assoc, arith}
 use Rattle.std.specs.Fmt.{signed_decimal}
-use Rattle.std.specs.Str.{bytes_eq}
-use Rattle.std.proofs.lemmas.Bool.{cond-true, cond-false, or_left, or_right, and_from, lt-ltb}
+use Rattle.std.proofs.lemmas.Bool.{cond-true, or_left, or_right, and_from, lt-ltb}
 use Rattle.ftpl.specs.declared.properties.Quantifier.{Quantifier}
 use Rattle.ftpl.specs.declared.properties.Quantifier.TheVariants.{ForAll, Exists}
 use Rattle.ftpl.specs.declared.properties.VariableKind.{VariableKind}
 use Rattle.ftpl.specs.declared.properties.VariableKind.TheVariants.{Component, Provided, Required, Parameter}
 use Rattle.ftpl.specs.declared.properties.Variable.{Variable}
-use Rattle.ftpl.specs.declared.properties.Variable.TheVariants.{Outer, Inner}
 use Rattle.ftpl.specs.declared.properties.Test.{Test}
 use Rattle.ftpl.specs.declared.properties.Test.TheVariants as tests
 use Rattle.ftpl.specs.declared.properties.Binder.{Binder}
@@ -16,9 +14,9 @@ use Rattle.book_text.specs.declared.words.Keyword.{Keyword}
 use Rattle.book_text.specs.declared.words.Keyword.TheVariants.{Name, In, Bound, Child, Same, Up, AtMost}
 use Rattle.book_text.specs.Words.{variable_text, keyword_text, quantifier_text, opening_text, kind_text}
 use Rattle.book_text.specs.declared.scopes.Scope.{Scope}
-use Rattle.book_text.specs.Rules.{Text, Over, IsBound, TestSays, Form, leaf, turned, joined, either, leaves, Level, loose, tight, single, plain, Reads, a_test, a_group, a_plain, a_not, one_tight, and_tight, one_loose, or_loose, scope_of, binder_text, RuleSays}
-use Rattle.book_text.specs.States.{State, dead, ended, opening, turning, grouping, testing, first, second, done, scoped, step, run, is_kind, kind_in, variable_of, variable_fits, first_fits, second_fits, viable, operated, is_number, naming, parting, kinding, extended}
-use Rattle.book_text.proofs.Lexical.{bound_reads, has_kind_lem, is_kind_lem, name_is, number_is}
+use Rattle.book_text.specs.Rules.{Text, Over, TestSays, Form, leaf, turned, joined, either, leaves, Level, loose, tight, single, plain, Reads, a_test, a_group, a_plain, a_not, one_tight, and_tight, one_loose, or_loose, scope_of, binder_text, RuleSays}
+use Rattle.book_text.specs.States.{State, dead, ended, opening, turning, grouping, first, second, done, scoped, step, run, is_kind, variable_of, variable_fits, first_fits, second_fits, viable, operated, is_number, naming, kinding, extended}
+use Rattle.book_text.proofs.Lexical.{bound_reads, has_kind_lem, name_is, number_is}
 
 pub run_append : (st : State) (p q : List Text) → run st (p ++ q) ≡ run (run st p) q
 run_append st [] q = refl

@@ -1,19 +1,19 @@
 -- What may stand goes on to a rule, and what follows a word that may not stand never is one.
-use Rattle.std.proofs.Common.{◌≡◌, ℕ, zero, suc, ◌+◌, ◌-◌, ◌<◌, ◌≤◌, Bool, true, false, cond, ◌&&◌, ◌||◌, eqb, ltb, leb, List, [], ◌∷◌, ◌++◌, pos, Some, None, codes, Option, sym, refl, ap, ◌∙◌, subst, true≢false, append_assoc, append-nil, arith}
+use Rattle.std.proofs.Common.{◌≡◌, ℕ, zero, suc, ◌+◌, ◌-◌, ◌<◌, ◌≤◌, Bool, true, false, cond, eqb, ltb, List, [], ◌∷◌, ◌++◌, pos, Some, None, codes, Option, sym, refl, ap, ◌∙◌, subst, arith}
 use borrow.Author.Differences.{ints}
 use Rattle.std.specs.Fmt.{signed_decimal}
 use Rattle.std.specs.Str.{bytes_eq}
-use Rattle.std.proofs.lemmas.Bool.{cond-true, cond-false, or_right, and_parts, ltb-true}
+use Rattle.std.proofs.lemmas.Bool.{or_right, and_parts, ltb-true}
 use Rattle.ftpl.specs.declared.properties.VariableKind.{VariableKind}
 use Rattle.ftpl.specs.declared.properties.VariableKind.TheVariants.{Component, Provided, Required, Parameter}
 use Rattle.ftpl.specs.declared.properties.Variable.{Variable}
-use Rattle.ftpl.specs.declared.properties.Variable.TheVariants.{Outer, Inner}
+use Rattle.ftpl.specs.declared.properties.Variable.TheVariants.{Outer}
 use Rattle.ftpl.specs.declared.properties.Binder.{Binder}
 use Rattle.book_text.specs.declared.words.Keyword.{Keyword}
 use Rattle.book_text.specs.declared.words.Keyword.TheVariants.{Name, In, Bound, Child, Same, Up, AtMost}
 use Rattle.book_text.specs.Words.{variable_text, keyword_text, keyword_of, quantifier_of, opening_of, kind_of}
 use Rattle.book_text.specs.declared.scopes.Scope.{Scope}
-use Rattle.book_text.specs.Rules.{Text, Over, Form, RuleSays}
+use Rattle.book_text.specs.Rules.{Text, Form, RuleSays}
 use Rattle.book_text.specs.States.{State, dead, ended, opening, naming, parting, kinding, scoped, turning, grouping, testing, first, second, done, after, extended, another, name_of_next, join_step, group_step, test_step, step, run, is_kind, variable_of, variable_fits, first_fits, second_fits, viable, operated}
 use Rattle.book_text.proofs.Lexical.{of_kind, number_is}
 use Rattle.book_text.proofs.Complete.{run_append, fits_read, read_some, at_first, at_second, two_run, close_run, rule_run}

@@ -1,18 +1,15 @@
 -- What is known of a test's operands once they are read.
-use Rattle.std.proofs.Common.{◌≡◌, Bool, true, false, ◌||◌, List, [], ◌∷◌, ℤ, Some, None, Option, sym, refl, ap, ◌∙◌, subst, ⊎_elim, true≢false, MatchOption}
+use Rattle.std.proofs.Common.{◌≡◌, Bool, true, false, [], ◌∷◌, ℤ, Some, None, Option, refl, ap, MatchOption}
 use Rattle.std.specs.Fmt.{signed_decimal}
-use Rattle.std.proofs.lemmas.Bool.{cases_Bool, or_from}
 use Rattle.host.specs.Names.{NameForm}
-use Rattle.ftpl.specs.declared.properties.VariableKind.{VariableKind}
-use Rattle.ftpl.specs.declared.properties.VariableKind.TheVariants.{Component, Provided, Required, Parameter}
+use Rattle.ftpl.specs.declared.properties.VariableKind.TheVariants.{Provided, Required, Parameter}
 use Rattle.ftpl.specs.declared.properties.Variable.{Variable}
 use Rattle.ftpl.specs.declared.properties.Test.{Test}
 use Rattle.ftpl.specs.declared.properties.Test.TheVariants as tests
-use Rattle.book_text.specs.declared.words.Keyword.{Keyword}
-use Rattle.book_text.specs.declared.words.Keyword.TheVariants.{Name, In, Bound, Child, Same, Up, AtMost}
+use Rattle.book_text.specs.declared.words.Keyword.TheVariants.{Bound, Child, Same, AtMost}
 use Rattle.book_text.specs.declared.scopes.Scope.{Scope}
 use Rattle.book_text.specs.Rules.{Text, Over, Within, TestSays}
-use Rattle.book_text.specs.States.{is_kind, is_name, is_number, kind_in, variable_of, variable_fits, first_fits, second_fits}
+use Rattle.book_text.specs.States.{is_kind, is_name, is_number, kind_in, variable_of, second_fits}
 use Rattle.book_text.specs.Words.{variable_text, keyword_text}
 use Rattle.book_text.proofs.Lexical.{reads_bound, is_name_lem, is_number_lem}
 use Rattle.book_text.proofs.Sound.{over_kind}

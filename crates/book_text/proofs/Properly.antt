@@ -1,5 +1,5 @@
 -- The words of a rule are words and signs that can be laid out.
-use Rattle.std.proofs.Common.{◌≡◌, ℕ, suc, ◌+◌, ◌/◌, ◌%◌, ◌^◌, ◌<◌, ◌≤◌, Bool, true, false, cond, ◌&&◌, ◌||◌, eqb, leb, ◌⊎◌, List, [], ◌∷◌, ◌++◌, length, ℤ, pos, negsuc, Some, None, codes, decimal, Option, sym, refl, ap, ◌∙◌, subst, inl, inr, ⊎_elim, true≢false, arith}
+use Rattle.std.proofs.Common.{◌≡◌, ℕ, suc, ◌+◌, ◌%◌, ◌^◌, ◌<◌, ◌≤◌, true, false, cond, ◌&&◌, ◌||◌, eqb, leb, List, [], ◌∷◌, ◌++◌, length, ℤ, pos, negsuc, Some, None, codes, decimal, Option, sym, refl, ap, subst, ⊎_elim, arith}
 use borrow.Author.Differences.{ints}
 use Rattle.std.specs.Fmt.{signed_decimal}
 use Rattle.std.specs.List.{AllByRecursion}
@@ -22,7 +22,7 @@ use Rattle.book_words.specs.declared.bytes.Class.TheVariants.{Line, Sign, Word}
 use Rattle.book_words.specs.Bytes.{kind_of, is_sign}
 use Rattle.book_words.specs.Layout.{Proper}
 use Rattle.book_text.specs.declared.scopes.Scope.{Scope}
-use Rattle.book_text.specs.Rules.{Text, Within, TestSays, Form, Level, Reads, a_test, a_group, a_plain, a_not, one_tight, and_tight, one_loose, or_loose, binder_text, inner_text, RuleSays}
+use Rattle.book_text.specs.Rules.{Text, Within, TestSays, Form, Level, Reads, a_test, a_group, a_plain, a_not, one_tight, and_tight, one_loose, or_loose, binder_text, inner_text}
 use Rattle.book_text.specs.Words.{variable_text, quantifier_text, opening_text, kind_text}
 use Rattle.book_text.specs.Wrong.{IsRule}
 

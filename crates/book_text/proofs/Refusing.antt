@@ -1,5 +1,5 @@
 -- The first wrong word of a rule's text.
-use Rattle.std.proofs.Common.{◌≡◌, ℕ, ◌<◌, ◌≤◌, ◌⊎◌, List, [], ◌∷◌, ◌++◌, length, get_or, take, vec_items, sym, refl, ap, ◌∙◌, subst, inl, inr, ⊎_elim, append-nil, arith}
+use Rattle.std.proofs.Common.{◌≡◌, ℕ, ◌≤◌, List, [], ◌++◌, length, vec_items, sym, subst, ⊎_elim, append-nil, arith}
 use lib.ListN.{length-map}
 use Rattle.std.proofs.lemmas.List.{take_all}
 use Rattle.std.proofs.lemmas.Bool.{cases_lt}
@@ -10,7 +10,7 @@ use Rattle.book_words.specs.Cuts.{words_of, Points}
 use Rattle.book_words.specs.Cutting.{Cutting}
 use Rattle.book_words.specs.Wrong.{FirstWrong as WrongWord}
 use Rattle.book_words.proofs.Wrongs.{wrong_inside, wrong_behind}
-use Rattle.book_text.specs.Rules.{Text, PropertySays, form}
+use Rattle.book_text.specs.Rules.{PropertySays, form}
 use Rattle.book_text.specs.Wrong.{IsRule, FirstWrong}
 use Rattle.book_text.proofs.Properly.{rule_proper}
 

@@ -1,10 +1,8 @@
 -- Words that lead from the first state to the last are a rule.
-use Rattle.std.proofs.Common.{◌≡◌, ℕ, zero, suc, ◌+◌, ◌-◌, ◌<◌, ◌≤◌, Bool, true, false, cond, ◌&&◌, ◌||◌, eqb, ltb, leb, ◌⊎◌, List, [], ◌∷◌, ◌++◌, is_some, Some, None, codes, Option, sym, refl, ap, ◌∙◌, subst, inl, inr, ⊎_elim, true≢false, append_assoc, append-nil, arith}
-use Rattle.std.specs.Fmt.{signed_decimal}
+use Rattle.std.proofs.Common.{◌≡◌, ℕ, zero, suc, ◌+◌, ◌-◌, ◌<◌, ◌≤◌, Bool, true, false, cond, eqb, ltb, List, [], ◌∷◌, ◌++◌, is_some, Some, None, codes, Option, sym, refl, ap, ◌∙◌, subst, ⊎_elim, true≢false, append_assoc, append-nil, arith}
 use Rattle.std.specs.Str.{bytes_eq}
-use Rattle.std.proofs.lemmas.Bool.{cond-true, cond-false, or_cases, and_parts, ltb-true, eqb-true}
+use Rattle.std.proofs.lemmas.Bool.{or_cases, ltb-true, eqb-true}
 use Rattle.host.specs.Names.{packed}
-use Rattle.ftpl.specs.declared.properties.Quantifier.{Quantifier}
 use Rattle.ftpl.specs.declared.properties.VariableKind.{VariableKind}
 use Rattle.ftpl.specs.declared.properties.VariableKind.TheVariants.{Component, Provided, Required, Parameter}
 use Rattle.ftpl.specs.declared.properties.Variable.{Variable}
@@ -13,11 +11,11 @@ use Rattle.ftpl.specs.declared.properties.Test.TheVariants as tests
 use Rattle.ftpl.specs.declared.properties.Binder.{Binder}
 use Rattle.book_text.specs.declared.words.Keyword.{Keyword}
 use Rattle.book_text.specs.declared.words.Keyword.TheVariants.{Name, In, Bound, Child, Same, Up, AtMost}
-use Rattle.book_text.specs.Words.{quantifiers, kinds, keywords, spelt, variable_text, keyword_text, keyword_of, quantifier_text, quantifier_of, opening_text, opening_of, kind_text, kind_of}
+use Rattle.book_text.specs.Words.{quantifiers, kinds, keywords, variable_text, keyword_text, keyword_of, quantifier_text, quantifier_of, opening_text, opening_of, kind_text, kind_of}
 use Rattle.book_text.specs.declared.scopes.Scope.{Scope}
-use Rattle.book_text.specs.Rules.{Text, Over, IsBound, TestSays, Form, leaf, turned, joined, either, leaves, Level, loose, tight, single, plain, Reads, a_test, a_group, a_plain, a_not, one_tight, and_tight, one_loose, or_loose, inner_kind, inner_text, scope_of, binder_text, RuleSays}
-use Rattle.book_text.specs.States.{State, dead, ended, opening, naming, parting, kinding, scoped, turning, grouping, testing, first, second, done, after, extended, another, name_of_next, join_step, group_step, test_step, step, run, is_kind, is_name, is_number, kind_in, variable_of, variable_fits, first_fits, second_fits, viable, operated}
-use Rattle.book_text.proofs.Lexical.{same_true, by_test, spelt_says, kind_is, reads_bound, is_name_lem, is_number_lem}
+use Rattle.book_text.specs.Rules.{Text, Over, TestSays, Form, leaf, turned, joined, either, leaves, Level, loose, tight, single, plain, Reads, a_test, a_group, a_plain, a_not, one_tight, and_tight, one_loose, or_loose, inner_kind, inner_text, RuleSays}
+use Rattle.book_text.specs.States.{State, dead, ended, opening, naming, parting, kinding, scoped, turning, grouping, first, second, done, after, name_of_next, group_step, test_step, step, run, is_kind, is_number, kind_in, variable_of, variable_fits, first_fits, second_fits, viable, operated}
+use Rattle.book_text.proofs.Lexical.{same_true, spelt_says, kind_is, reads_bound, is_name_lem, is_number_lem}
 
 pub dead_run : (u : List Text) → run dead u ≡ ended → ⊥
 unfolding step

@@ -1,10 +1,10 @@
 -- What one more digit, a sign, and one write after another leave in a buffer.
-use Rattle.std.proofs.Common.{◌≡◌, ℕ, suc, ◌+◌, ◌/◌, ◌%◌, ◌^◌, ◌<◌, ◌≤◌, true, false, List, [], ◌∷◌, ◌++◌, length, take, drop, set, ℤ, pos, negsuc, nat_abs, ◌≤ℤ◌, decimal, sym, refl, ap, ◌∙◌, subst, true≢false, append_assoc, arith, length-append, w32, SFits, ltb-true}
+use Rattle.std.proofs.Common.{◌≡◌, ℕ, ◌+◌, ◌/◌, ◌%◌, ◌^◌, ◌<◌, ◌≤◌, true, false, List, [], ◌∷◌, ◌++◌, length, take, set, ℤ, pos, negsuc, nat_abs, ◌≤ℤ◌, decimal, sym, refl, ap, ◌∙◌, subst, true≢false, append_assoc, arith, length-append, w32, SFits, ltb-true}
 use lib.Signed.{lt_z}
 use borrow.Author.Differences.{ints}
 use Rattle.std.specs.Fmt.{signed_decimal}
 use Rattle.std.proofs.lemmas.Fmt.{decimal_digit, decimal_step, length-decimal-le, length_signed_le, signed_decimal_injective}
-use Rattle.std.proofs.lemmas.List.{take_more_set, length_push}
+use Rattle.std.proofs.lemmas.List.{take_more_set}
 use Rattle.book_text.specs.Puts.{Puts}
 
 -- one write after another

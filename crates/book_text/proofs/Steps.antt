@@ -1,10 +1,9 @@
 -- How what one part took joins with what the next took, and how a stop in a part is a stop in the whole.
-use Rattle.std.proofs.Common.{◌≡◌, ℕ, ◌+◌, ◌-◌, ◌<◌, ◌≤◌, Bool, true, false, cond, ◌&&◌, eqb, ltb, ◌⊎◌, List, [], ◌∷◌, ◌++◌, length, get_or, Some, None, codes, Option, sym, refl, ap, ◌∙◌, subst, inl, inr, ⊎_elim, true≢false, append-nil, arith}
+use Rattle.std.proofs.Common.{◌≡◌, ℕ, ◌+◌, ◌-◌, ◌<◌, ◌≤◌, Bool, true, false, cond, ◌&&◌, eqb, ltb, List, [], ◌∷◌, ◌++◌, length, get_or, codes, sym, refl, ap, ◌∙◌, subst, ⊎_elim, true≢false, append-nil, arith}
 use lib.ListN.{length-map}
 use Rattle.std.specs.Str.{bytes_eq}
 use Rattle.std.proofs.lemmas.List.{get_or_past}
-use Rattle.std.proofs.lemmas.Bool.{cases_lt, cond-true, cond-false, and_parts, ltb-true, le-ltb, lt-ltb, ne_eqb}
-use Rattle.ftpl.specs.declared.properties.Test.{Test}
+use Rattle.std.proofs.lemmas.Bool.{cases_lt, cond-false, and_parts, ltb-true, ne_eqb}
 use Rattle.ftpl.specs.declared.properties.Tests.{Tests}
 use Rattle.book_text.specs.declared.parts.Part.{Part}
 use Rattle.book_text.specs.declared.parts.Stop.{Stop}
@@ -12,12 +11,12 @@ use Rattle.book_text.specs.declared.parts.Stop.TheVariants.{Wrong, Memory}
 use Rattle.book_text.specs.declared.scopes.Scope.{Scope}
 use Rattle.book_words.specs.declared.tokens.Token.{Token}
 use Rattle.book_words.specs.Cuts.{part, words_of}
-use Rattle.book_text.specs.Rules.{Text, TestSays, Form, leaf, turned, joined, either, leaves, form, Level, loose, tight, single, plain, Reads, a_test, a_group, a_plain, a_not, one_tight, and_tight, one_loose, or_loose}
+use Rattle.book_text.specs.Rules.{Text, turned, joined, either, leaves, form, Level, loose, tight, single, plain, Reads, a_group, a_plain, a_not, one_tight, and_tight, one_loose, or_loose}
 use Rattle.book_text.specs.States.{State, dead, ended, turning, grouping, testing, done, step, run, Stuck, Running, group_step, test_step, join_step}
 use Rattle.book_text.specs.Took.{Took, Failed, Shut, Unjoined}
 use Rattle.book_words.proofs.Parting.{part_join, part_first, part_none, part_one}
 use Rattle.book_text.proofs.Lexical.{same_true}
-use Rattle.book_text.proofs.Complete.{not_run, join_and, join_or, open_run, close_run, run_append, start, complete, leaves_some}
+use Rattle.book_text.proofs.Complete.{not_run, join_and, join_or, open_run, run_append, start, complete}
 
 pub mid_first : (s : List Text) (b e : ℕ) → b < e → e ≤ length s → part s b e ≡ get_or s b [] ∷ part s (b + 1) e
 mid_first s b e h k = part_first [] s b e h k

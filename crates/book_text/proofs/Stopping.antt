@@ -1,12 +1,12 @@
 -- Where a reader stops is the first wrong word.
-use Rattle.std.proofs.Common.{◌≡◌, ℕ, ◌+◌, ◌-◌, ◌<◌, ◌≤◌, List, [], ◌∷◌, ◌++◌, length, get_or, take, drop, sym, refl, ap, ◌∙◌, subst, arith}
+use Rattle.std.proofs.Common.{◌≡◌, ℕ, ◌-◌, ◌≤◌, List, [], ◌∷◌, ◌++◌, length, get_or, take, sym, ap, ◌∙◌, subst, arith}
 use Rattle.std.proofs.lemmas.List.{take_all}
 use Rattle.book_text.specs.declared.parts.Stop.{Stop}
 use Rattle.book_text.specs.declared.parts.Stop.TheVariants.{Wrong, Memory}
 use Rattle.book_text.specs.declared.rules.Rule.{Rule}
 use Rattle.book_text.specs.Rules.{Text, PropertySays}
 use Rattle.book_words.specs.Cuts.{part}
-use Rattle.book_text.specs.States.{State, dead, ended, opening, step, run, Stuck, Running}
+use Rattle.book_text.specs.States.{State, dead, ended, opening, step, run, Running}
 use Rattle.book_text.specs.Took.{Failed, RuleTaken}
 use Rattle.book_text.specs.Wrong.{IsRule, FirstWrong, Stopped}
 use Rattle.book_text.proofs.Complete.{rule_run}

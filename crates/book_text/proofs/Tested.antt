@@ -1,5 +1,5 @@
 -- One test that was read, or the word at which it stopped.
-use Rattle.std.proofs.Common.{◌≡◌, ℕ, ◌+◌, ◌^◌, ◌<◌, ◌≤◌, Bool, true, false, cond, List, [], ◌∷◌, ◌++◌, length, get_or, ℤ, pos, negsuc, Some, None, codes, decimal, Option, sym, refl, ap, ◌∙◌, subst, arith}
+use Rattle.std.proofs.Common.{◌≡◌, ℕ, ◌+◌, ◌<◌, ◌≤◌, true, false, cond, List, [], ◌∷◌, length, get_or, ℤ, pos, negsuc, Some, None, sym, refl, ap, ◌∙◌, subst, arith}
 use borrow.Author.Differences.{ints}
 use Rattle.std.specs.Fmt.{signed_decimal}
 use Rattle.std.proofs.lemmas.Fmt.{decimal_nonempty}
@@ -15,12 +15,12 @@ use Rattle.book_text.specs.declared.words.Keyword.{Keyword}
 use Rattle.book_text.specs.declared.words.Keyword.TheVariants.{Name, In, Bound, Child, Same, Up, AtMost}
 use Rattle.book_text.specs.Rules.{Text, Over, Within, TestSays, plain, a_test}
 use Rattle.book_words.specs.Cuts.{part}
-use Rattle.book_text.specs.States.{State, dead, testing, first, second, done, after, step, run, Stuck, kind_in, is_kind, variable_of, variable_fits, first_fits, second_fits, viable, operated}
+use Rattle.book_text.specs.States.{dead, testing, first, second, done, after, step, Stuck, kind_in, variable_of, variable_fits, first_fits, second_fits, viable, operated}
 use Rattle.book_text.specs.Took.{Took}
 use Rattle.book_text.specs.Words.{keywords, keyword_text, keyword_of, variable_text}
 use Rattle.book_text.proofs.Lexical.{spelt_says, reads_bound}
 use Rattle.book_text.proofs.Sound.{over_kind}
-use Rattle.book_words.proofs.Parting.{part_join, part_none}
+use Rattle.book_words.proofs.Parting.{part_none}
 use Rattle.book_text.proofs.Steps.{mid_first, stands, stuck_here, stuck_step}
 
 keyword_some : (w : Keyword) → keyword_text w ≡ [] → ⊥

@@ -1,5 +1,5 @@
 -- The rule of a property: which words say which property.
-use Rattle.std.specs.Prelude.{◌≡◌, ℕ, ◌+◌, ◌≤◌, Bool, true, cond, List, [], ◌∷◌, ◌++◌, ℤ, pos, negsuc, ◌≤ℤ◌, Some, None, codes, Option}
+use Rattle.std.specs.Prelude.{◌≡◌, ℕ, ◌+◌, ◌≤◌, List, [], ◌∷◌, ◌++◌, ℤ, pos, negsuc, ◌≤ℤ◌, Some, None, codes, Option}
 use Rattle.std.specs.Fmt.{signed_decimal}
 use Rattle.host.specs.Names.{NameForm, packed}
 use Rattle.ftpl.specs.declared.properties.VariableKind.{VariableKind}

@@ -1,5 +1,5 @@
 -- The fixed words of a book text, and what each stands for.
-use Rattle.std.specs.Prelude.{ℕ, Bool, cond, List, [], ◌∷◌, ◌++◌, map, Some, None, codes, Option}
+use Rattle.std.specs.Prelude.{ℕ, cond, List, [], ◌∷◌, Some, None, codes, Option}
 use Rattle.std.specs.Str.{bytes_eq}
 use Rattle.ftpl.specs.declared.properties.Quantifier.{Quantifier}
 use Rattle.ftpl.specs.declared.properties.Quantifier.TheVariants.{ForAll, Exists}

@@ -1,12 +1,10 @@
-use Rattle.std.proofs.Common.{◌≡◌, ◌+◌, ◌-◌, ◌<◌, ◌≤◌, [], ◌∷◌, length, get_or, codes, sym, ap, ◌∙◌, subst, arith, rules}
+use Rattle.std.proofs.Common.{◌≡◌, ◌-◌, ◌<◌, [], length, get_or, codes, sym, ap, ◌∙◌, subst, arith, rules}
 use Rattle.std.specs.Str.{bytes_eq}
 use Rattle.std.proofs.lemmas.Result.{MatchResult-weaker}
-use Rattle.book_text.specs.Rules.{plain}
-use Rattle.book_text.specs.States.{turning, grouping, testing, step, Stuck}
-use Rattle.book_text.specs.Took.{Failed, Took}
+use Rattle.book_text.specs.States.{turning, grouping, testing, Stuck}
 use Rattle.book_words.specs.Cuts.{words_of}
 use Rattle.book_text.proofs.Lexical.{same_true}
-use Rattle.book_text.proofs.Steps.{as_long, Joined, joined_by, failed_or, failed_and, took_or, took_and, took_loose, took_tight, took_plain, took_not, took_group, failed_as, failed_step, failed_group, not_closed, as_group, as_test, too_deep, stuck_here, begun, failed_turned}
+use Rattle.book_text.proofs.Steps.{as_long, joined_by, failed_or, failed_and, took_or, took_and, took_loose, took_tight, took_plain, took_not, took_group, failed_as, failed_group, not_closed, as_group, as_test, too_deep, stuck_here, begun, failed_turned}
 use Rattle.book_text.proofs.joins.+both_either_plain_single.Goals as goal
 
 pub both-returns-then-not-joins : goal.both-returns-then-not-joins

@@ -1,4 +1,4 @@
-use Rattle.std.proofs.Common.{◌/◌, ◌<◌, ◌≤◌, arith}
+use Rattle.std.proofs.Common.{arith}
 use Rattle.book_text.proofs.Spelling.{one_digit, more_digits, nine}
 use Rattle.book_text.proofs.numerals.+put_natural.Goals as goal
 

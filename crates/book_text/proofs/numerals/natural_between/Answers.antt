@@ -1,4 +1,4 @@
-use Rattle.std.proofs.Common.{◌≡◌, pos, sym, arith}
+use Rattle.std.proofs.Common.{◌≡◌, pos, arith}
 use borrow.Author.Differences.{ints}
 use Rattle.book_text.proofs.Spelling.{one_number, small_fits}
 use Rattle.book_text.proofs.numerals.natural_between.Goals as goal

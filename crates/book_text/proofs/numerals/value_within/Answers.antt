@@ -1,4 +1,4 @@
-use Rattle.std.proofs.Common.{◌≡◌, sym, arith}
+use Rattle.std.proofs.Common.{◌≡◌, arith}
 use borrow.Author.Differences.{ints}
 use Rattle.book_text.proofs.Spelling.{one_number, million_fits}
 use Rattle.book_text.proofs.numerals.value_within.Goals as goal

@@ -1,4 +1,4 @@
-use Rattle.std.proofs.Common.{◌≡◌, ℕ, length, sym, ◌∙◌, arith}
+use Rattle.std.proofs.Common.{arith}
 use Rattle.book_words.specs.Cuts.{words_of}
 use Rattle.book_text.proofs.Steps.{as_long}
 use Rattle.book_text.proofs.Stopping.{stopped, behind, rule_whole}

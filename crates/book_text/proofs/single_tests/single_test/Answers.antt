@@ -1,4 +1,4 @@
-use Rattle.std.proofs.Common.{◌≡◌, ◌+◌, true, false, [], ◌∷◌, length, get_or, Some, None, sym, ap, ◌∙◌, subst, arith}
+use Rattle.std.proofs.Common.{◌≡◌, true, [], ◌∷◌, sym, ap, ◌∙◌, subst, arith}
 use Rattle.book_text.specs.Rules.{Over, TestSays}
 use Rattle.book_text.specs.States.{variable_of, variable_fits, first_fits, second_fits, kind_in}
 use Rattle.book_words.specs.Cuts.{words_of}

@@ -1,4 +1,4 @@
-use Rattle.std.proofs.Common.{◌≡◌, ◌≤◌, length, vec_items, sym, ◌∙◌, subst, arith}
+use Rattle.std.proofs.Common.{◌≤◌, length, vec_items, subst, arith}
 use Rattle.book_words.specs.Cuts.{words_of}
 use Rattle.book_text.specs.Wrong.{Stopped}
 use Rattle.book_text.proofs.Refusing.{text_wrong, text_broken}
