@@ -1,5 +1,5 @@
 -- Lists of events behind `after`, and what a whole line leads to.
-use Rattle.std.proofs.Common.{◌≡◌, ℕ, ◌+◌, ◌<◌, ◌≤◌, Bool, true, false, cond, ltb, List, [], ◌∷◌, ◌++◌, length, get_or, Some, None, codes, Option, sym, refl, ap, ◌∙◌, subst, append_assoc, append-nil, arith}
+use Rattle.std.proofs.Common.{◌≡◌, ℕ, ◌+◌, ◌<◌, ◌≤◌, Bool, true, false, ltb, List, [], ◌∷◌, ◌++◌, length, get_or, Some, None, codes, sym, refl, ap, ◌∙◌, subst, append_assoc, append-nil, arith}
 use Rattle.std.proofs.lemmas.Bool.{cond-true, lt-ltb}
 use Rattle.ftpl.specs.declared.formulas.EventList.{EventList}
 use Rattle.ftpl.specs.declared.formulas.Leaf.{Leaf}
@@ -10,14 +10,13 @@ use Rattle.book_words.specs.Cuts.{part as mid}
 use Rattle.book_text.proofs.Steps.{mid_first, begun}
 use Rattle.book_words.proofs.Parting.{part_join as mid_join}
 use Rattle.formula_text.specs.declared.events.Events.{Events}
-use Rattle.formula_text.specs.declared.leaves.LeafWord.{LeafWord}
 use Rattle.formula_text.specs.declared.leaves.LeafWord.TheVariants as says
 use Rattle.formula_text.specs.declared.lines.Ending.{Ending}
 use Rattle.formula_text.specs.declared.lines.Line.{Line}
-use Rattle.formula_text.specs.Rules.{Tree, size, Reads, a_leaf, a_group, one_tight, and_tight, one_loose, or_loose, ListSays, TraceSays, CoreOf, just, before, until, CoreSays, AftersSay, LineSays, Means}
-use Rattle.formula_text.specs.States.{State, dead, ended, ready, tracing, done, bracket, closing, ready_step, step, run, Stuck}
+use Rattle.formula_text.specs.Rules.{Tree, size, Reads, a_leaf, a_group, one_tight, and_tight, one_loose, or_loose, ListSays, CoreOf, just, before, until, CoreSays, AftersSay, LineSays}
+use Rattle.formula_text.specs.States.{dead, ended, ready, tracing, done, bracket, closing, ready_step, step, run, Stuck}
 use Rattle.formula_text.specs.Took.{Failed, IsList, ListTook, Ends, EndTook, Lines, LineTook}
-use Rattle.formula_text.proofs.Steps.{run_append, stuck_here, stuck_after, stuck_step}
+use Rattle.formula_text.proofs.Steps.{stuck_here, stuck_after, stuck_step}
 use Rattle.formula_text.proofs.Listed.{list_run}
 use Rattle.formula_text.proofs.Lined.{nl, failed_on, some_trace, traced, list_stuck_run}
 

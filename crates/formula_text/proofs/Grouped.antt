@@ -1,20 +1,20 @@
 -- Leaves and groups joined by signs, or the word at which they stopped.
 use Rattle.std.proofs.Common.{◌≡◌, ℕ, ◌+◌, ◌-◌, ◌<◌, ◌≤◌, Bool, true, false, cond, ◌&&◌, eqb, ltb, List, [], ◌∷◌, ◌++◌, length, get_or, codes, sym, refl, ap, ◌∙◌, subst, true≢false, append_assoc, append-nil, arith, length-append}
 use Rattle.std.specs.Str.{bytes_eq}
-use Rattle.std.proofs.lemmas.Bool.{cond-true, cond-false, and_parts, ltb-true, ne_eqb}
+use Rattle.std.proofs.lemmas.Bool.{cond-false, and_parts, ltb-true, ne_eqb}
 use Rattle.ftpl.specs.declared.formulas.Leaf.{Leaf}
 use Rattle.ftpl.specs.declared.formulas.Trace.{Trace}
 use Rattle.book_text.specs.declared.parts.Stop.{Stop}
 use Rattle.book_text.specs.declared.parts.Stop.TheVariants.{Wrong, Memory}
-use Rattle.book_text.specs.Rules.{Text, Level, loose, tight, single, plain}
+use Rattle.book_text.specs.Rules.{Text, Level, loose, tight, plain}
 use Rattle.book_words.specs.Cuts.{part as mid}
 use Rattle.book_text.proofs.Lexical.{same_true}
 use Rattle.book_text.proofs.Steps.{mid_first, mid_one, mid_sign, stands, begun}
-use Rattle.book_words.proofs.Parting.{part_join as mid_join, part_none as Mid-None}
+use Rattle.book_words.proofs.Parting.{part_join as mid_join}
 use Rattle.formula_text.specs.declared.places.Place.{Place}
 use Rattle.formula_text.specs.declared.places.Part.{Part}
-use Rattle.formula_text.specs.Rules.{Tree, leaf, joined, either, flat, size, shape, numbered, Reads, a_group, one_tight, and_tight, one_loose, or_loose}
-use Rattle.formula_text.specs.States.{State, dead, ended, bracket, closing, tracing, done, join_step, trace_step, leaf_step, step, run, Stuck}
+use Rattle.formula_text.specs.Rules.{Tree, joined, either, flat, size, shape, numbered, Reads, a_group, one_tight, and_tight, one_loose, or_loose}
+use Rattle.formula_text.specs.States.{State, dead, ended, bracket, closing, tracing, done, join_step, trace_step, step, run, Stuck}
 use Rattle.formula_text.specs.Took.{fill, Unjoined, Shut, Took, Tracks, Failed}
 use Rattle.formula_text.proofs.Steps.{run_append, stuck_here, stuck_after, stuck_step}
 use Rattle.formula_text.proofs.Traced.{complete, at_and, at_or, at_open, fill_append, some_leaf}

@@ -1,26 +1,22 @@
 -- Formulas that were read up to the end of the line, or the word at which they stopped.
-use Rattle.std.proofs.Common.{◌≡◌, ℕ, zero, suc, ◌+◌, ◌-◌, ◌<◌, ◌≤◌, Bool, true, false, cond, ltb, ◌⊎◌, List, [], ◌∷◌, ◌++◌, length, get_or, codes, sym, refl, ap, ◌∙◌, subst, inl, inr, ⊎_elim, append_assoc, append-nil, arith}
+use Rattle.std.proofs.Common.{◌≡◌, ℕ, ◌+◌, ◌<◌, ◌≤◌, Bool, true, false, List, [], ◌∷◌, ◌++◌, length, get_or, codes, sym, refl, ap, ◌∙◌, subst, ⊎_elim, append_assoc, append-nil, arith}
 use Rattle.std.specs.Str.{bytes_eq}
-use Rattle.std.proofs.lemmas.Bool.{cases_lt, cond-true, cond-false, lt-ltb}
-use Rattle.ftpl.specs.declared.formulas.EventList.{EventList}
+use Rattle.std.proofs.lemmas.Bool.{cases_lt, cond-false}
 use Rattle.ftpl.specs.declared.formulas.Leaf.{Leaf}
 use Rattle.ftpl.specs.declared.formulas.Leaves.{Leaves}
 use Rattle.ftpl.specs.declared.formulas.Core.TheVariants as cores
 use Rattle.book_text.specs.declared.parts.Stop.{Stop}
 use Rattle.book_text.specs.declared.parts.Stop.TheVariants.{Wrong, Memory}
-use Rattle.book_text.specs.Rules.{Text, Level, loose, tight, plain}
+use Rattle.book_text.specs.Rules.{Text, loose}
 use Rattle.book_words.specs.Cuts.{part as mid}
-use Rattle.book_text.proofs.Steps.{mid_first, mid_one, begun}
+use Rattle.book_text.proofs.Steps.{mid_first, begun}
 use Rattle.book_words.proofs.Parting.{part_join as mid_join, part_none as Mid-None}
 use Rattle.formula_text.specs.declared.events.Events.{Events}
-use Rattle.formula_text.specs.declared.leaves.LeafWord.{LeafWord}
-use Rattle.formula_text.specs.declared.leaves.LeafWord.TheVariants as says
-use Rattle.formula_text.specs.declared.places.Place.{Place}
 use Rattle.formula_text.specs.declared.places.Part.{Part}
 use Rattle.formula_text.specs.declared.lines.Ending.{Ending}
-use Rattle.formula_text.specs.Rules.{Tree, leaf, flat, size, four, Reads, a_leaf, a_group, one_tight, and_tight, one_loose, or_loose, ListSays, TraceSays, CoreOf, just, before, until, CoreSays}
-use Rattle.formula_text.specs.States.{State, dead, ended, ready, tracing, done, bracket, closing, ready_step, trace_step, step, run, Running, Stuck}
-use Rattle.formula_text.specs.Took.{fill, Shut, Took, Tracks, Failed, IsList, ListTook, IsTrace, TraceTook, EndSays, Ends, EndTook}
+use Rattle.formula_text.specs.Rules.{Tree, flat, size, four, one_tight, one_loose, TraceSays, just, before, until}
+use Rattle.formula_text.specs.States.{State, dead, ended, ready, tracing, done, bracket, closing, step, run, Running, Stuck}
+use Rattle.formula_text.specs.Took.{fill, Took, Tracks, Failed, IsList, ListTook, IsTrace, TraceTook, EndSays, Ends, EndTook}
 use Rattle.formula_text.proofs.Steps.{run_append, stuck_here, stuck_after, stuck_step}
 use Rattle.formula_text.proofs.Listed.{list_run}
 use Rattle.formula_text.proofs.Traced.{complete, some_leaf, size_some}

@@ -1,5 +1,5 @@
 -- Events that were read, or the word at which they stopped.
-use Rattle.std.proofs.Common.{◌≡◌, ℕ, ◌+◌, ◌<◌, ◌≤◌, Bool, true, false, cond, List, [], ◌∷◌, ◌++◌, length, get_or, Some, None, codes, decimal, Option, sym, refl, ap, ◌∙◌, subst, append_assoc, append-nil, arith}
+use Rattle.std.proofs.Common.{◌≡◌, ℕ, ◌+◌, ◌<◌, ◌≤◌, false, List, [], ◌∷◌, ◌++◌, length, get_or, Some, None, codes, decimal, sym, refl, ap, ◌∙◌, subst, append-nil, arith}
 use Rattle.std.specs.Str.{bytes_eq}
 use Rattle.std.proofs.lemmas.Bool.{cond-true, cond-false}
 use Rattle.ftpl.specs.declared.formulas.EventList.{EventList}
@@ -7,7 +7,7 @@ use Rattle.book_text.specs.Rules.{Text}
 use Rattle.book_words.specs.Cuts.{part as mid}
 use Rattle.book_text.proofs.Lexical.{spelt_says}
 use Rattle.book_text.proofs.Steps.{mid_first, mid_one, stands, begun}
-use Rattle.book_words.proofs.Parting.{part_join as mid_join, part_none as Mid-None}
+use Rattle.book_words.proofs.Parting.{part_join as mid_join}
 use Rattle.formula_text.specs.declared.events.EventWord.{EventWord}
 use Rattle.formula_text.specs.declared.events.EventWord.TheVariants.{Called, Normal, Exceptional, Terminates}
 use Rattle.formula_text.specs.declared.events.Events.{Events}
@@ -15,7 +15,7 @@ use Rattle.formula_text.specs.Words.{event_text, event_words, event_of}
 use Rattle.formula_text.specs.Rules.{no_events, with_event, Listing, a_last, a_more, ListSays}
 use Rattle.formula_text.specs.States.{is_up_to, State, dead, bracket, operation, saying, listed, after, step, run, Stuck}
 use Rattle.formula_text.specs.Took.{Lists, EventsTook, IsList, ListTook}
-use Rattle.formula_text.proofs.Steps.{not_up_to, up_to, number_some, run_append, stuck_here, stuck_after, stuck_step}
+use Rattle.formula_text.proofs.Steps.{not_up_to, up_to, number_some, stuck_here, stuck_after, stuck_step}
 
 event_some : (w : EventWord) → event_text w ≡ [] → ⊥
 event_some Called e = let z : ◌≡◌ {A = ℕ} 0 1 = cc in omega arith

@@ -1,5 +1,5 @@
 -- The first word of a rule, and where a reader stops in the whole of it.
-use Rattle.std.proofs.Common.{◌≡◌, ℕ, zero, suc, ◌+◌, ◌-◌, ◌<◌, ◌≤◌, Bool, true, false, cond, ◌⊎◌, List, [], ◌∷◌, ◌++◌, length, get_or, take, drop, codes, decimal, sym, refl, ap, ◌∙◌, subst, inl, inr, ⊎_elim, true≢false, append_assoc, append-nil, arith, take-append-drop}
+use Rattle.std.proofs.Common.{◌≡◌, ℕ, zero, suc, ◌-◌, ◌<◌, ◌≤◌, true, false, List, [], ◌∷◌, ◌++◌, length, get_or, take, drop, codes, decimal, sym, refl, ap, ◌∙◌, subst, ⊎_elim, true≢false, append-nil, arith, take-append-drop}
 use Rattle.std.specs.Str.{bytes_eq}
 use Rattle.std.proofs.lemmas.List.{take_all}
 use Rattle.std.proofs.lemmas.Bool.{cases_lt, cond-true, cond-false}
@@ -9,12 +9,12 @@ use Rattle.book_text.specs.declared.parts.Stop.{Stop}
 use Rattle.book_text.specs.declared.parts.Stop.TheVariants.{Wrong, Memory}
 use Rattle.book_text.specs.Rules.{Text}
 use Rattle.book_words.specs.Cuts.{part as mid}
-use Rattle.book_text.proofs.Lexical.{same_true, same_refl, by_test}
+use Rattle.book_text.proofs.Lexical.{same_true, by_test}
 use Rattle.formula_text.specs.declared.lines.Line.{Line}
 use Rattle.formula_text.specs.declared.leaves.LeafWord.TheVariants as says
 use Rattle.formula_text.specs.Words.{unfronted, leaf_of}
 use Rattle.formula_text.specs.Rules.{leaf, a_leaf, a_group, one_tight, one_loose, just, CoreOf, LineSays, Fronted, within, apart, RuleSays, FormulaSays}
-use Rattle.formula_text.specs.States.{State, dead, ended, opening, fronting, ready, tracing, ready_step, front_step, step, run, Running}
+use Rattle.formula_text.specs.States.{dead, ended, opening, fronting, ready, tracing, ready_step, front_step, step, run, Running}
 use Rattle.formula_text.specs.Took.{Failed, Lines, LineTook}
 use Rattle.formula_text.specs.Wrong.{IsRule, FirstWrong, Stopped, Front, first, second}
 use Rattle.formula_text.proofs.Steps.{run_append, first_word, as_many}

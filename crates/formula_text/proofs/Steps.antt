@@ -1,13 +1,12 @@
 -- How a stop in a part is a stop in the whole, and what a number or a first word is.
-use Rattle.std.proofs.Common.{◌≡◌, ℕ, zero, suc, ◌+◌, ◌-◌, ◌^◌, ◌<◌, ◌≤◌, Bool, true, false, List, [], ◌∷◌, ◌++◌, length, get_or, take, drop, decimal, sym, refl, ap, ◌∙◌, subst, true≢false, append_assoc, arith}
+use Rattle.std.proofs.Common.{◌≡◌, ℕ, ◌+◌, ◌-◌, ◌<◌, ◌≤◌, Bool, true, false, List, [], ◌∷◌, ◌++◌, length, get_or, drop, decimal, sym, refl, ap, ◌∙◌, subst, append_assoc, arith}
 use Rattle.std.specs.Str.{bytes_eq}
 use Rattle.std.proofs.lemmas.Fmt.{decimal_nonempty}
 use Rattle.book_text.specs.Rules.{Text}
-use Rattle.book_text.specs.States.{any_below}
 use Rattle.book_words.specs.Cuts.{part as mid}
 use Rattle.book_words.specs.declared.tokens.Token.{Token}
 use Rattle.book_text.proofs.Lexical.{same_true, same_refl, any_from, any_to}
-use Rattle.book_text.proofs.Steps.{mid_one, stands, as_long}
+use Rattle.book_text.proofs.Steps.{mid_one, as_long}
 use Rattle.book_words.proofs.Parting.{part_join as mid_join, part_none as Mid-None}
 use Rattle.formula_text.specs.Words.{unfronted, rule_words}
 use Rattle.formula_text.specs.States.{is_up_to, State, dead, step, run, Running, Stuck}

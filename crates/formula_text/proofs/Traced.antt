@@ -1,28 +1,25 @@
 -- Leaves and groups that were read, or the word at which they stopped.
-use Rattle.std.proofs.Common.{◌≡◌, ℕ, ◌+◌, ◌-◌, ◌<◌, ◌≤◌, Bool, true, false, cond, ◌&&◌, eqb, ltb, List, [], ◌∷◌, ◌++◌, length, get_or, Some, None, codes, decimal, Option, sym, refl, ap, ◌∙◌, subst, true≢false, append_assoc, append-nil, arith, length-append}
+use Rattle.std.proofs.Common.{◌≡◌, ℕ, ◌+◌, ◌-◌, ◌<◌, ◌≤◌, Bool, false, ltb, List, [], ◌∷◌, ◌++◌, length, get_or, Some, None, codes, decimal, sym, refl, ap, ◌∙◌, subst, append_assoc, append-nil, arith, length-append}
 use Rattle.std.specs.Str.{bytes_eq}
-use Rattle.std.proofs.lemmas.Bool.{cond-true, cond-false, and_parts, ltb-true, lt-ltb, ne_eqb}
+use Rattle.std.proofs.lemmas.Bool.{cond-true, cond-false, lt-ltb}
 use Rattle.ftpl.specs.declared.formulas.Leaf.{Leaf}
 use Rattle.ftpl.specs.declared.formulas.Leaves.{Leaves}
 use Rattle.ftpl.specs.declared.formulas.Slot.{Slot}
-use Rattle.ftpl.specs.declared.formulas.Trace.{Trace}
 use Rattle.ftpl.specs.declared.formulas.Trace.TheVariants.{At}
 use Rattle.book_text.specs.declared.parts.Stop.{Stop}
 use Rattle.book_text.specs.declared.parts.Stop.TheVariants.{Wrong, Memory}
-use Rattle.book_text.specs.Rules.{Text, Level, loose, tight, single, plain}
+use Rattle.book_text.specs.Rules.{Text, Level, plain}
 use Rattle.book_words.specs.Cuts.{part as mid}
-use Rattle.book_text.proofs.Lexical.{spelt_says, same_true}
-use Rattle.book_text.proofs.Steps.{mid_first, mid_one, mid_sign, stands, begun}
-use Rattle.book_words.proofs.Parting.{part_join as mid_join, part_none as Mid-None}
+use Rattle.book_text.proofs.Lexical.{spelt_says}
+use Rattle.book_text.proofs.Steps.{mid_first, mid_one, stands}
 use Rattle.formula_text.specs.declared.leaves.LeafWord.{LeafWord}
 use Rattle.formula_text.specs.declared.leaves.LeafWord.TheVariants as says
 use Rattle.formula_text.specs.declared.places.Place.{Place}
-use Rattle.formula_text.specs.declared.places.Part.{Part}
 use Rattle.formula_text.specs.Words.{leaf_text, leaf_words, leaf_word_of, leaf_of}
-use Rattle.formula_text.specs.Rules.{Tree, leaf, joined, either, flat, size, shape, slot_at, numbered, Reads, a_leaf, a_group, one_tight, and_tight, one_loose, or_loose}
-use Rattle.formula_text.specs.States.{is_up_to, State, dead, ended, bracket, closing, tracing, numbering, done, after, leaf_step, join_step, trace_step, step, run, Running, Stuck}
-use Rattle.formula_text.specs.Took.{put_leaf, fill, Unjoined, Shut, Took, Tracks, Failed}
-use Rattle.formula_text.proofs.Steps.{not_up_to, up_to, number_some, run_append, stuck_here, stuck_after, stuck_step}
+use Rattle.formula_text.specs.Rules.{Tree, leaf, joined, either, flat, size, slot_at, Reads, a_leaf, a_group, one_tight, and_tight, one_loose, or_loose}
+use Rattle.formula_text.specs.States.{is_up_to, State, dead, tracing, numbering, done, after, leaf_step, step, run, Stuck}
+use Rattle.formula_text.specs.Took.{put_leaf, fill, Took, Tracks, Failed}
+use Rattle.formula_text.proofs.Steps.{not_up_to, up_to, number_some, stuck_here, stuck_step}
 
 pub size_some : (f : Tree Leaf) → 0 < size f
 size_some (leaf x) = omega arith

@@ -1,5 +1,5 @@
 -- The rule of a formula: which words say which formula.
-use Rattle.std.specs.Prelude.{◌≡◌, ℕ, zero, suc, ◌+◌, ◌^◌, ◌≤◌, Bool, cond, List, [], ◌∷◌, ◌++◌, length, Some, None, codes, decimal, Option, ◌==◌, bit_or, slice_index_or}
+use Rattle.std.specs.Prelude.{◌≡◌, ℕ, zero, suc, ◌+◌, ◌^◌, ◌≤◌, cond, List, [], ◌∷◌, ◌++◌, length, Some, None, codes, decimal, Option, ◌==◌, bit_or, slice_index_or}
 use Rattle.ftpl.specs.declared.formulas.EventList.{EventList}
 use Rattle.ftpl.specs.declared.formulas.Leaf.{Leaf}
 use Rattle.ftpl.specs.declared.formulas.Leaf.TheVariants.{Always}
@@ -11,7 +11,7 @@ use Rattle.ftpl.specs.declared.formulas.Trace.TheVariants as traces
 use Rattle.ftpl.specs.declared.formulas.Core.{Core}
 use Rattle.ftpl.specs.declared.formulas.Core.TheVariants as cores
 use Rattle.ftpl.specs.declared.formulas.Formula.{Formula}
-use Rattle.book_text.specs.Rules.{Text, Level, loose, tight, single, plain}
+use Rattle.book_text.specs.Rules.{Text, Level, loose, tight, plain}
 use Rattle.formula_text.specs.declared.events.EventWord.{EventWord}
 use Rattle.formula_text.specs.declared.events.EventWord.TheVariants.{Called, Normal, Exceptional, Terminates}
 use Rattle.formula_text.specs.declared.leaves.LeafWord.{LeafWord}

@@ -1,5 +1,5 @@
 -- The fixed words of a formula's rule, and what each stands for.
-use Rattle.std.specs.Prelude.{ℕ, List, [], ◌∷◌, map, drop, codes, Option}
+use Rattle.std.specs.Prelude.{ℕ, List, [], ◌∷◌, drop, codes, Option}
 use Rattle.ftpl.specs.declared.formulas.Leaf.{Leaf}
 use Rattle.ftpl.specs.declared.formulas.Leaf.TheVariants.{Always, Eventually, Never}
 use Rattle.book_words.specs.declared.tokens.Token.{Token}

@@ -1,8 +1,7 @@
-use Rattle.std.proofs.Common.{◌≡◌, ◌+◌, ◌<◌, ◌≤◌, [], ◌∷◌, length, get_or, Some, None, codes, decimal, sym, ap, ◌∙◌, subst, arith}
+use Rattle.std.proofs.Common.{◌+◌, [], get_or, codes, sym, ap, ◌∙◌, subst, arith}
 use Rattle.std.specs.Str.{bytes_eq}
 use Rattle.std.proofs.lemmas.Result.{MatchResult-weaker}
 use Rattle.book_text.proofs.Lexical.{same_true}
-use Rattle.ftpl.specs.declared.formulas.EventList.{EventList}
 use Rattle.formula_text.specs.Words.{event_of, rule_words}
 use Rattle.formula_text.specs.States.{dead, operation, Stuck}
 use Rattle.formula_text.specs.Took.{Lists, EventsTook}

@@ -1,9 +1,8 @@
-use Rattle.std.proofs.Common.{◌≡◌, ◌+◌, ◌<◌, ◌≤◌, true, false, [], ◌∷◌, length, get_or, codes, sym, ap, ◌∙◌, subst, arith, rules}
+use Rattle.std.proofs.Common.{◌<◌, false, [], length, get_or, codes, sym, ap, ◌∙◌, arith, rules}
 use Rattle.std.specs.Str.{bytes_eq}
-use Rattle.std.proofs.lemmas.Result.{MatchResult-weaker}
 use Rattle.book_text.proofs.Lexical.{same_true}
 use Rattle.book_text.proofs.Steps.{begun}
-use Rattle.formula_text.specs.States.{closing, tracing, ready}
+use Rattle.formula_text.specs.States.{tracing}
 use Rattle.formula_text.specs.Words.{rule_words}
 use Rattle.formula_text.proofs.Steps.{rule_long}
 use Rattle.formula_text.proofs.Lined.{before_list_failed, before_failed, before_open, before_took}

@@ -1,4 +1,4 @@
-use Rattle.std.proofs.Common.{◌≡◌, [], ◌∷◌, get_or, take, codes, sym, ap, ◌∙◌}
+use Rattle.std.proofs.Common.{[], get_or, take, codes, sym, ap, ◌∙◌}
 use Rattle.std.specs.Str.{bytes_eq}
 use Rattle.book_words.specs.Cuts.{words_of}
 use Rattle.book_text.proofs.Lexical.{same_true}

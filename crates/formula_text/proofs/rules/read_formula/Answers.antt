@@ -1,4 +1,4 @@
-use Rattle.std.proofs.Common.{◌≡◌, ◌≤◌, arith}
+use Rattle.std.proofs.Common.{◌≤◌, arith}
 use Rattle.book_words.specs.Cuts.{words_of}
 use Rattle.book_text.proofs.Steps.{as_long}
 use Rattle.formula_text.proofs.Opened.{no_properties, front_inside, front_failed, front_took, front_behind}

@@ -1,4 +1,4 @@
-use Rattle.std.proofs.Common.{◌≡◌, ◌+◌, ◌-◌, ◌<◌, ◌≤◌, false, [], ◌∷◌, length, get_or, codes, sym, ap, ◌∙◌, subst, arith, rules}
+use Rattle.std.proofs.Common.{◌≡◌, ◌-◌, ◌<◌, false, [], length, get_or, codes, sym, ap, ◌∙◌, subst, arith, rules}
 use Rattle.std.specs.Str.{bytes_eq}
 use Rattle.book_text.specs.Rules.{loose, tight, plain}
 use Rattle.book_text.proofs.Lexical.{same_true}
@@ -9,7 +9,7 @@ use Rattle.formula_text.specs.Took.{Tracks}
 use Rattle.formula_text.specs.Words.{rule_words}
 use Rattle.formula_text.proofs.Steps.{rule_long}
 use Rattle.formula_text.proofs.Traced.{failed_weaker}
-use Rattle.formula_text.proofs.Grouped.{ands, ors, joins_by, took_alone, failed_join, took_join, open_inside, failed_group, not_closed, took_group, too_deep}
+use Rattle.formula_text.proofs.Grouped.{ands, ors, joins_by, took_alone, failed_join, took_join, failed_group, not_closed, took_group, too_deep}
 use Rattle.formula_text.proofs.traces.+both_either_plain.Goals as goal
 
 pub both-returns-in-Err : goal.both-returns-in-Err

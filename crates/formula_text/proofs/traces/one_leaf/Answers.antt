@@ -1,8 +1,8 @@
-use Rattle.std.proofs.Common.{◌≡◌, ◌+◌, ◌<◌, ◌≤◌, [], ◌∷◌, length, get_or, sym, ap, ◌∙◌, subst, arith}
-use Rattle.formula_text.specs.Words.{leaf_word_of, leaf_of, rule_words}
+use Rattle.std.proofs.Common.{sym, ap, ◌∙◌, arith}
+use Rattle.formula_text.specs.Words.{leaf_word_of, rule_words}
 use Rattle.formula_text.specs.Took.{put_leaf}
 use Rattle.formula_text.proofs.Steps.{rule_long}
-use Rattle.formula_text.proofs.Traced.{no_leaf, leaf_inside, no_number, took_leaf}
+use Rattle.formula_text.proofs.Traced.{no_leaf, no_number, took_leaf}
 use Rattle.formula_text.proofs.traces.one_leaf.Goals as goal
 
 pub returns-in_default : goal.returns-in_default
