@@ -5,3 +5,4 @@ pub mod Grouped
 pub mod Lined
 pub mod Afters
 pub mod Opened
+pub mod Fixed

@@ -1,5 +1,5 @@
 -- The three groups of lines of a book go on one after the other.
-use Rattle.std.proofs.Common.{◌≡◌, ℕ, suc, ◌+◌, ◌^◌, ◌<◌, ◌≤◌, List, [], ◌∷◌, ◌++◌, length, codes, decimal, sym, refl, ap, ◌∙◌, subst, append_assoc, arith}
+use Rattle.std.proofs.Common.{◌≡◌, ℕ, ◌+◌, ◌≤◌, List, [], ◌∷◌, ◌++◌, length, codes, decimal, sym, refl, subst, arith}
 use Rattle.std.specs.List.{AllByRecursion}
 use Rattle.book_words.specs.declared.bytes.Class.{Class}
 use Rattle.book_words.specs.Layout.{Proper}
@@ -8,7 +8,6 @@ use Rattle.book_text.specs.Wrong.{IsRule as IsProperty}
 use Rattle.formula_text.specs.Wrong.{IsRule as IsFormula}
 use Rattle.formula_text.proofs.Afters.{some_core}
 use Rattle.whole_book.specs.declared.entries.Listed.{Listed}
-use Rattle.whole_book.specs.declared.entries.Head.{Head}
 use Rattle.whole_book.specs.declared.entries.Head.TheVariants.{Property, Condition, Formula}
 use Rattle.whole_book.specs.Books.{numbered, held, Rising, LinesSay, IsBook}
 use Rattle.whole_book.specs.Lines.{last_from, counted, Line}

@@ -1,5 +1,5 @@
 -- What stands behind the first word of a line, and where it stops.
-use Rattle.std.proofs.Common.{◌≡◌, ℕ, suc, ◌-◌, ◌<◌, ◌≤◌, ◌⊎◌, List, [], ◌∷◌, ◌++◌, length, get_or, take, drop, codes, sym, refl, ap, ◌∙◌, subst, inl, inr, arith}
+use Rattle.std.proofs.Common.{◌≡◌, ℕ, suc, ◌-◌, ◌<◌, ◌≤◌, List, [], ◌∷◌, length, get_or, take, drop, codes, sym, refl, ap, ◌∙◌, arith}
 use Rattle.std.proofs.lemmas.List.{take-map, drop-map}
 use Rattle.book_text.specs.Rules.{Text}
 use Rattle.book_text.specs.Wrong.{Stopped as PropertyStopped}
@@ -9,17 +9,16 @@ use Rattle.formula_text.specs.Wrong.{Stopped as FormulaStopped}
 use Rattle.book_words.specs.declared.tokens.Token.{Token}
 use Rattle.book_words.specs.Cuts.{words_of, part}
 use Rattle.whole_book.specs.Among.{WrongAt}
-use Rattle.whole_book.specs.declared.entries.Head.{Head}
 use Rattle.whole_book.specs.declared.entries.Head.TheVariants.{Property, Condition, Formula}
 use Rattle.whole_book.specs.Lines.{Body, last_from}
 use Rattle.whole_book.specs.Took.{BodyStopped}
 
 pub property_stopped : (k : ℕ) (s : List Text) (r : Stop) → PropertyStopped s r → BodyStopped k Property s r
-property_stopped k s (Wrong e) x = x
+property_stopped k s (Wrong e) x = record { inside = x.inside; before = x.before; never = x.never; lacking = x.lacking }
 property_stopped k s Memory x = tt
 
 pub formula_stopped : (k : ℕ) (s : List Text) (r : Stop) → 1 ≤ k → FormulaStopped k s r → BodyStopped k Formula s r
-formula_stopped k s (Wrong e) m x = x.1 m
+formula_stopped k s (Wrong e) m x = record { inside = x.inside; before = x.before m; never = x.never; lacking = x.lacking }
 formula_stopped k s Memory m x = tt
 
 -- a line's end and nothing behind it

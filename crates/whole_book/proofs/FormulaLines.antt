@@ -1,5 +1,5 @@
 -- The words of a rule are a line: words and signs up to its end.
-use Rattle.std.proofs.Common.{◌≡◌, ℕ, ◌^◌, ◌<◌, ◌≤◌, ◌⊎◌, List, [], ◌∷◌, ◌++◌, codes, decimal, sym, refl, ap, ◌∙◌, subst, inl, inr, ⊎_elim, append_assoc, arith}
+use Rattle.std.proofs.Common.{◌≡◌, ℕ, ◌^◌, ◌<◌, ◌⊎◌, List, [], ◌∷◌, ◌++◌, codes, decimal, sym, refl, ap, ◌∙◌, subst, inl, inr, ⊎_elim, append_assoc, arith}
 use Rattle.std.specs.List.{AllByRecursion}
 use Rattle.std.proofs.ByRecursion.{All-append}
 use Rattle.ftpl.specs.declared.formulas.EventList.{EventList}
@@ -10,24 +10,10 @@ use Rattle.book_words.specs.Bytes.{kind_of}
 use Rattle.book_words.specs.Layout.{Proper}
 use Rattle.whole_book.proofs.Lining.{Inside, Lined, decimal_inside, word_proper, word_inside, inside_not}
 use Rattle.book_text.specs.Rules.{Text, Level}
-use Rattle.formula_text.specs.declared.events.EventWord.{EventWord}
-use Rattle.formula_text.specs.declared.events.EventWord.TheVariants.{Called, Normal, Exceptional, Terminates}
-use Rattle.formula_text.specs.declared.leaves.LeafWord.{LeafWord}
-use Rattle.formula_text.specs.declared.leaves.LeafWord.TheVariants as says
-use Rattle.formula_text.specs.Words.{event_text, leaf_text}
-use Rattle.formula_text.specs.Rules.{Listing, a_last, a_more, ListSays, Tree, Reads, a_leaf, a_group, one_tight, and_tight, one_loose, or_loose, CoreOf, just, before, until, CoreSays, AftersSay, LineSays, Fronted, within, apart, RuleSays}
+use Rattle.formula_text.specs.Words.{leaf_text}
+use Rattle.formula_text.specs.Rules.{Listing, a_last, a_more, ListSays, Tree, Reads, a_leaf, a_group, one_tight, and_tight, one_loose, or_loose, CoreOf, just, before, until, CoreSays, AftersSay, LineSays, Fronted, within, apart}
 use Rattle.formula_text.specs.Wrong.{IsRule}
-
-event_inside : (w : EventWord) → Inside (event_text w)
-event_inside Called = word_inside _ _ (refl, (refl, (refl, (refl, (refl, (refl, tt))))))
-event_inside Normal = word_inside _ _ (refl, (refl, (refl, (refl, (refl, (refl, tt))))))
-event_inside Exceptional = word_inside _ _ (refl, (refl, (refl, (refl, (refl, (refl, (refl, (refl, (refl, (refl, (refl, tt)))))))))))
-event_inside Terminates = word_inside _ _ (refl, (refl, (refl, (refl, (refl, (refl, (refl, (refl, (refl, (refl, tt))))))))))
-
-leaf_proper : (w : LeafWord) → Proper Word (leaf_text w)
-leaf_proper says.Always = word_proper _ _ (refl, (refl, (refl, (refl, (refl, (refl, tt))))))
-leaf_proper says.Eventually = word_proper _ _ (refl, (refl, (refl, (refl, (refl, (refl, (refl, (refl, (refl, (refl, tt))))))))))
-leaf_proper says.Never = word_proper _ _ (refl, (refl, (refl, (refl, (refl, tt)))))
+use Rattle.formula_text.proofs.Fixed.{event_proper, leaf_proper}
 
 after_proper : Proper Word (codes "after")
 after_proper = word_proper _ _ (refl, (refl, (refl, (refl, (refl, tt)))))
@@ -42,8 +28,8 @@ rule_inside : Inside (codes "rule=")
 rule_inside = word_inside _ _ (refl, (refl, (refl, (refl, (refl, tt)))))
 
 listing_inside : {e f : EventList} {p : List Text} → Listing e p f → AllByRecursion Inside p
-listing_inside (a_last k w l m) = (decimal_inside k (omega arith), (event_inside w, (inl (93, refl, refl), tt)))
-listing_inside (a_more k w l m r) = (decimal_inside k (omega arith), (event_inside w, (inl (44, refl, refl), listing_inside r)))
+listing_inside (a_last k w l m) = (decimal_inside k (omega arith), (inr (event_proper w), (inl (93, refl, refl), tt)))
+listing_inside (a_more k w l m r) = (decimal_inside k (omega arith), (inr (event_proper w), (inl (44, refl, refl), listing_inside r)))
 
 list_inside : {e : EventList} {p : List Text} → ListSays e p → AllByRecursion Inside p
 list_inside h = subst (AllByRecursion Inside) (sym h.2) (inl (91, refl, refl), listing_inside h.1)

@@ -1,5 +1,5 @@
 -- The words of a rule are a line: words and signs up to its end.
-use Rattle.std.proofs.Common.{◌≡◌, ℕ, suc, ◌+◌, ◌/◌, ◌%◌, ◌^◌, ◌<◌, ◌≤◌, Bool, true, false, cond, ◌&&◌, ◌||◌, eqb, leb, ◌⊎◌, List, [], ◌∷◌, ◌++◌, length, ℤ, pos, negsuc, Some, None, codes, decimal, Option, sym, refl, ap, ◌∙◌, subst, inl, inr, ⊎_elim, true≢false, append_assoc, arith}
+use Rattle.std.proofs.Common.{◌≡◌, ℕ, suc, ◌^◌, ◌<◌, ◌≤◌, true, ◌&&◌, ◌||◌, leb, List, [], ◌∷◌, ◌++◌, length, ℤ, pos, negsuc, Some, None, codes, Option, sym, refl, ap, ◌∙◌, subst, inl, inr, ⊎_elim, append_assoc, arith}
 use borrow.Author.Differences.{ints}
 use Rattle.std.specs.Fmt.{signed_decimal}
 use Rattle.std.specs.List.{AllByRecursion}
@@ -19,8 +19,7 @@ use Rattle.ftpl.specs.declared.properties.Binder.{Binder}
 use Rattle.book_words.specs.declared.bytes.ByteKind.TheVariants.{Plain}
 use Rattle.book_words.specs.Bytes.{kind_of}
 use Rattle.whole_book.proofs.Lining.{Inside, Lined, apart, decimal_plain}
-use Rattle.book_text.specs.declared.scopes.Scope.{Scope}
-use Rattle.book_text.specs.Rules.{Text, Within, TestSays, Form, Level, Reads, a_test, a_group, a_plain, a_not, one_tight, and_tight, one_loose, or_loose, binder_text, inner_text, RuleSays}
+use Rattle.book_text.specs.Rules.{Text, Within, TestSays, Form, Level, Reads, a_test, a_group, a_plain, a_not, one_tight, and_tight, one_loose, or_loose, binder_text, inner_text}
 use Rattle.book_text.specs.Words.{variable_text, quantifier_text, opening_text, kind_text}
 use Rattle.book_text.specs.Wrong.{IsRule}
 
@@ -107,7 +106,7 @@ sign_or = inl (124, refl, refl)
 sign_colon : Inside (codes ":")
 sign_colon = inl (58, refl, refl)
 
-test_proper : (sc : Scope) (t : Test) (p : List Text) → TestSays sc t p → AllByRecursion Inside p
+test_proper : (sc : _) (t : Test) (p : List Text) → TestSays sc t p → AllByRecursion Inside p
 test_proper sc (tests.Named x n) p h = subst (AllByRecursion Inside) (sym h.4) (lit_name, (variable_proper x, (name_proper h.0 h.1, tt)))
 test_proper sc (tests.OwnerNamed x n) p h = subst (AllByRecursion Inside) (sym h.4) (lit_in, (variable_proper x, (name_proper h.0 h.1, tt)))
 test_proper sc (tests.Bound x y) p h = subst (AllByRecursion Inside) (sym h.2) (lit_bound, (variable_proper x, (variable_proper y, tt)))
@@ -117,7 +116,7 @@ test_proper sc (tests.Up x) p h = subst (AllByRecursion Inside) (sym h.1) (lit_u
 test_proper sc (tests.AtMostNumber x z) p h = subst (AllByRecursion Inside) (sym h.2) (lit_atmost, (variable_proper x, (number_proper z h.1, tt)))
 test_proper sc (tests.AtMost x y) p h = subst (AllByRecursion Inside) (sym h.2) (lit_atmost, (variable_proper x, (variable_proper y, tt)))
 
-reads_proper : {sc : Scope} {l : Level} {n : ℕ} {p : List Text} {f : Form} → Reads sc l n p f → AllByRecursion Inside p
+reads_proper : {sc : _} {l : Level} {n : ℕ} {p : List Text} {f : Form} → Reads sc l n p f → AllByRecursion Inside p
 reads_proper {sc} {p = p} (a_test {t = t} h) = test_proper sc t p h
 reads_proper (a_group {p = p} r) = (sign_open, All-append Inside p (codes ")" ∷ []) (reads_proper r) (sign_close, tt))
 reads_proper (a_plain r) = reads_proper r

@@ -1,5 +1,5 @@
 -- Where a line stops being one, the words stop being a book.
-use Rattle.std.proofs.Common.{◌≡◌, ℕ, suc, ◌+◌, ◌-◌, ◌<◌, ◌≤◌, ◌⊎◌, List, [], ◌∷◌, ◌++◌, length, get_or, take, drop, vec_items, codes, sym, refl, ap, ◌∙◌, subst, inl, inr, ⊎_elim, append_assoc, append-nil, one-add, arith, length-append, length-drop, take-append-drop, get_or-append-add}
+use Rattle.std.proofs.Common.{◌≡◌, ℕ, ◌+◌, ◌-◌, ◌<◌, ◌≤◌, ◌⊎◌, List, [], ◌∷◌, ◌++◌, length, get_or, take, drop, vec_items, codes, sym, refl, ap, ◌∙◌, subst, inl, inr, ⊎_elim, append_assoc, append-nil, one-add, arith, length-append, length-drop, take-append-drop, get_or-append-add}
 use lib.Seq.{take-append-le, take-append_seam, take-append-add, get_or-append_seam}
 use Rattle.std.specs.List.{AllByRecursion}
 use Rattle.std.proofs.ByRecursion.{All-from_get_or}
@@ -21,11 +21,11 @@ use Rattle.whole_book.specs.declared.entries.Head.{Head}
 use Rattle.whole_book.specs.Books.{BookSays, IsBook}
 use Rattle.whole_book.specs.declared.entries.Entry.{Entry}
 use Rattle.whole_book.specs.declared.lines.Line.{Line as Taken}
-use Rattle.whole_book.specs.Lines.{listed_in, HeadSays, Body, BodySays, Line}
+use Rattle.whole_book.specs.Lines.{listed_in, HeadSays, Body, BodySays}
 use Rattle.whole_book.specs.Took.{NoEnd, LineEnd, Entered, LineTook, InLine, LineStopped, Stopped, NextTook}
-use Rattle.whole_book.proofs.Lists.{compared, no_length}
+use Rattle.whole_book.proofs.Lists.{compared}
 use Rattle.whole_book.proofs.Going.{Goes, none, line, rest_goes, head_one, body_lined}
-use Rattle.whole_book.proofs.Counting.{nothing, book_goes, is_book_goes}
+use Rattle.whole_book.proofs.Counting.{book_goes, is_book_goes}
 use Rattle.whole_book.proofs.Ending.{words_part}
 use Rattle.whole_book.proofs.Adding.{few_listed, as_listed, all_properties, all_formulas, some_book, is_book_more, book_more}
 

@@ -1,7 +1,6 @@
-use Rattle.std.proofs.Common.{◌≡◌, ◌<◌, ◌≤◌, [], length, get_or, codes, sym, refl, ap, ◌∙◌, subst, inl, inr, arith}
+use Rattle.std.proofs.Common.{◌≡◌, [], length, get_or, codes, sym, refl, ap, ◌∙◌, inl, inr, arith}
 use Rattle.std.specs.Str.{bytes_eq}
 use Rattle.book_words.specs.Cuts.{words_of}
-use Rattle.whole_book.specs.Took.{NoEnd}
 use Rattle.book_text.proofs.Lexical.{same_true}
 use Rattle.book_text.proofs.Steps.{as_long}
 use Rattle.whole_book.proofs.bodies.line_end.Goals as goal

@@ -1,4 +1,4 @@
-use Rattle.std.proofs.Common.{◌≤◌, length, vec_items, sym, subst, arith}
+use Rattle.std.proofs.Common.{◌≤◌, length, vec_items, subst, arith}
 use Rattle.book_words.specs.Cuts.{words_of}
 use Rattle.whole_book.proofs.Told.{text_wrong, text_broken, no_text}
 use Rattle.whole_book.specs.Books.{IsBook}
@@ -16,7 +16,7 @@ returns-in-Ok-read_lines c =
     let xs = c.as_slice.result.now in
     let n : length (vec_items w.tokens) ≤ c.len.result = omega (arith, c.len.ensures, w.tokens.ok.0) in
     let r = c.point-token.result in
-    let p = c.point-token.ensures k.inside in
+    let p = c.point-token.ensures in
     let f = wrong_in s r c.located.result (text_broken IsBook book_proper s w k xs c.as_slice.ensures.value c.len.result r p (some_book c.in-Ok-read_lines.book (words_of xs) c.in-Ok-read_lines.ensures) n (λ e. omega (arith, c.if-words-text.false, e))) c.located.ensures in
     record { answer = f; passes = no_text IsBook s _ _ f.first }
 
@@ -27,5 +27,5 @@ returns-in-Wrong c =
     let xs = c.as_slice.result.now in
     let f = subst (Stopped (words_of xs)) c.in-Wrong.is c.in-Err-read_lines.ensures in
     let r = c.point.result in
-    let g = wrong_in s r c.located-in-Wrong.result (text_wrong IsBook book_proper s c.in-Ok.words k xs c.as_slice.ensures.value c.in-Wrong.n r (c.point.ensures k.inside) f) c.located-in-Wrong.ensures in
+    let g = wrong_in s r c.located-in-Wrong.result (text_wrong IsBook book_proper s c.in-Ok.words k xs c.as_slice.ensures.value c.in-Wrong.n r c.point.ensures f) c.located-in-Wrong.ensures in
     record { answer = g; passes = no_text IsBook s _ _ g.first }

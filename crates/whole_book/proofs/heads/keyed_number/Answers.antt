@@ -1,4 +1,4 @@
-use Rattle.std.proofs.Common.{◌≡◌, ◌++◌, Some, None, decimal, sym, ap, ◌∙◌}
+use Rattle.std.proofs.Common.{◌++◌, Some, None, decimal, sym, ap, ◌∙◌}
 use Rattle.std.proofs.lemmas.Slice.Eq.{strip_prefix_is}
 use Rattle.std.proofs.lemmas.List.{append_cancel_left}
 use Rattle.table_text.proofs.Wrong.{some_weaker}
@@ -16,4 +16,4 @@ returns-in-Some c =
     (λ n t. (t.0, t.1, e ∙ ap (λ x. k ++ x) t.2))
 
 pub returns-in-None : goal.returns-in-None
-returns-in-None c = λ n l m q. strip_prefix_is c.args.word.now c.args.key.now None c.in-None.ensures.cases (decimal n) q
+returns-in-None c = λ n l m q. strip_prefix_is Decides-eqb c.args.word.now c.args.key.now None c.in-None.ensures.cases (decimal n) q

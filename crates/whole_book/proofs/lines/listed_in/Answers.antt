@@ -1,4 +1,4 @@
-use Rattle.std.proofs.Common.{◌≡◌, ◌-◌, length, get_or, vec_items, sym, refl, ap, ◌∙◌, subst, arith}
+use Rattle.std.proofs.Common.{◌≡◌, ◌-◌, length, get_or, vec_items, sym, ap, ◌∙◌, arith}
 use Rattle.whole_book.specs.Lines.{last_from}
 use Rattle.whole_book.proofs.Ending.{last_is, last_none}
 use Rattle.whole_book.proofs.lines.listed_in.Goals as goal
@@ -15,7 +15,7 @@ returns c =
       | in-Some w ↦
           let x = w.in-Some.ensures.item in
           let n = w.in-Some.number.now in
-          w.last_is ∙ x.1 ∙ ap (λ z. get_or z (length z - 1) n) c.as_slice.ensures.value ∙ sym (last_is 0 (vec_items b.conditions) n (omega (arith, x.3.0, ap length c.as_slice.ensures.value)))
-      | in-None w ↦ w.last_is ∙ sym (last_none 0 (vec_items b.conditions) (omega (arith, w.in-None.ensures.item.3, ap length c.as_slice.ensures.value)))
+          w.last-is ∙ x.1 ∙ ap (λ z. get_or z (length z - 1) n) c.as_slice.ensures.value ∙ sym (last_is 0 (vec_items b.conditions) n (omega (arith, x.3.0, ap length c.as_slice.ensures.value)))
+      | in-None w ↦ w.last-is ∙ sym (last_none 0 (vec_items b.conditions) (omega (arith, w.in-None.ensures.item.3, ap length c.as_slice.ensures.value)))
     ] in
     λ i. record { properties = p i; conditions = k i; last = l i; formulas = f i }

@@ -1,4 +1,4 @@
-use Rattle.std.proofs.Common.{◌-◌, ◌≤◌, List, length, take}
+use Rattle.std.proofs.Common.{◌-◌, ◌≤◌, length, take}
 use Rattle.book_words.specs.Cuts.{words_of}
 use Rattle.whole_book.specs.Books.{BookSays}
 use Rattle.whole_book.proofs.lines.read_lines.Given as goal
