@@ -1,5 +1,5 @@
 #!/bin/sh
-# Runs the benchmark over 1,000,000 positions and writes the figures of this run into docs/BENCHMARKS.md.
+# Runs the benchmark over 1,000,000 positions and writes the figures of this run into docs/BENCHMARKS.md, in place of what stands there.
 # It builds the program first, which is proved before.
 set -e
 cd "$(dirname "$0")/.."

@@ -3,8 +3,8 @@
 
 usage: python3 tools/respell.py [--list]      at the top of the repository, once, after the kit's own upgrade script
 
-A name is own where a file of some specs/ or proofs/ folder declares it. `rowAt` becomes `row_at`, `rises-on` becomes
-`rises_on`, a type `Set-to-hi` becomes `SetToHi`. Functions of src/, strings, comments, inputs and outputs are left alone.
+A name is own where a file of some specs/ or proofs/ folder declares it. `rowAt` becomes `row_at`, `spared-on` becomes
+`spared_on`, a type `Set-to-hi` becomes `SetToHi`. Functions of src/, strings, comments, inputs and outputs are left alone.
 """
 import collections
 import os

@@ -1,5 +1,5 @@
 -- What a check of a table answers, as a function of the table. It is made so that it answers what `Checked` says
--- (verdict-right), and there is one such answer.
+-- (`verdict_right`), and there is one such answer.
 use Rattle.std.specs.Prelude.{◌≡◌, ℕ, zero, suc, ◌<◌, ◌≤◌, ◌⊎◌, List, length, ℤ, pos, Ok, Err, Result, ◌≢◌, refl}
 use Rattle.std.proofs.Common.{sym, ap, subst, ◌∙◌, inl, inr, arith, lit≤}
 use Rattle.std.proofs.Math.Decide.{ℕ_discrete, dec_le}
