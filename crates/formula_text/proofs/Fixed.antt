@@ -11,7 +11,8 @@ use Rattle.formula_text.specs.declared.leaves.LeafWord.{LeafWord}
 use Rattle.formula_text.specs.declared.leaves.LeafWord.TheVariants as says
 use Rattle.formula_text.specs.Words.{event_text, leaf_text}
 
-word_proper : (b : ℕ) (t : List ℕ) → AllByRecursion (λ b. kind_of b ≡ Plain) (b ∷ t) → Proper Word (b ∷ t)
+-- bytes of which each is plain, by a test that computes
+pub word_proper : (b : ℕ) (t : List ℕ) → AllByRecursion (λ b. kind_of b ≡ Plain) (b ∷ t) → Proper Word (b ∷ t)
 word_proper b t h = ((λ e. let z : ◌≡◌ {A = ℕ} 0 1 = cc in omega arith), h)
 
 pub event_proper : (w : EventWord) → Proper Word (event_text w)
