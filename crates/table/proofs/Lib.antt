@@ -4,3 +4,4 @@ pub mod Keeping
 pub mod Settling
 pub mod Accepting
 pub mod Edges
+pub mod Finding
