@@ -5,3 +5,4 @@ pub mod Settling
 pub mod Accepting
 pub mod Edges
 pub mod Finding
+pub mod Order

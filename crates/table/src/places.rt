@@ -1,4 +1,4 @@
-ghost use Rattle.std.specs.Prelude.{◌≡◌, ℕ, ◌<◌, ◌≤◌, Decides};
+ghost use Rattle.std.specs.Prelude.{◌≡◌, ℕ, ◌<◌, ◌≤◌, not, ◌==◌, count_by, Decides};
 ghost use Rattle.table.specs.Places.{Owns, OwnsAnother, LinkOfAnother, LinkedInterface, InterfaceLinked, Bears, Borne, Reaches, Joinable};
 
 use host::{COMPONENT, Host, NONE, PROVIDED, REQUIRED, row_at, same_name};
@@ -83,4 +83,13 @@ pub(crate) fn joinable<H: Host>(host: &H, a: u8, b: u8) -> bool
     let above_a = row_at(host, owner_a).owner;
     let above_b = row_at(host, owner_b).owner;
     owner_a != owner_b && above_a == above_b && row_at(host, above_a).kind == COMPONENT
+}
+
+/// How many rows of a host are filled.
+pub fn filled_rows<H: Host>(host: &H) -> usize
+    ensures { result ≡ count_by (λ row. not (row.kind == 0)) (H.Host.rows host.now) }
+{
+    (0..host.capacity())
+        .filter(|&place| row_at(host, place).is_filled())
+        .count()
 }
