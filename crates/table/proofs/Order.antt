@@ -1,6 +1,6 @@
 -- The ten rules in the order of their numbers.
-use Rattle.std.proofs.Common.{◌≡◌, ℕ, suc, ◌<◌, ◌+◌, List, [], ◌∷◌, length, map, Some, None, Option, sym, ap, subst, ◌∙◌, refl, arith, lit<}
-use Rattle.std.specs.List.{range_with_len, slice_index_or, AllWithin, HoldsAt}
+use Rattle.std.proofs.Common.{◌≡◌, ℕ, suc, ◌<◌, List, [], ◌∷◌, Some, None, Option, sym, ap, subst, ◌∙◌, refl, arith, lit<}
+use Rattle.std.specs.List.{slice_index_or, AllWithin, HoldsAt}
 use Rattle.std.specs.Option.{MatchOption}
 use Rattle.std.proofs.lemmas.List.{get_or-map}
 use Rattle.std.proofs.lemmas.List.FromFn.{get_or-range_with_len}

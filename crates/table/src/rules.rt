@@ -4,7 +4,9 @@ ghost use Rattle.table.specs.Verdicts.{verdict};
 
 use crate::breaches::Breach;
 use crate::places::{borne, joinable, owns, reaches};
-use host::{COMPONENT, Host, NONE, PARAMETER, PROVIDED, REQUIRED, Row, Rule, is_name, row_at};
+use host::{
+    COMPONENT, EMPTY, Host, NONE, PARAMETER, PROVIDED, REQUIRED, Row, Rule, is_name, row_at,
+};
 
 /// The ten rules in the order of their numbers.
 const RULES: [Rule; 10] = [
@@ -24,17 +26,7 @@ const RULES: [Rule; 10] = [
 fn kind_known(row: Row) -> bool
     ensures { Decides result (KindKnown row) }
 {
-    if row.kind == 0 {
-        row.name == 0
-            && row.owner == NONE
-            && row.link == NONE
-            && row.up == 0
-            && row.lo == 0
-            && row.hi == 0
-            && row.value == 0
-    } else {
-        row.kind <= 4
-    }
+    row == EMPTY || matches!(row.kind, COMPONENT..=PARAMETER)
 }
 
 /// R2: link, range, value and up only where the kind has them.
