@@ -1,4 +1,4 @@
-use host::Rule;
+use host::{Refusal, Rule};
 use std::fmt;
 
 /// The lowest place at which a table breaks a rule, and the lowest rule that it breaks there.
@@ -18,5 +18,17 @@ impl fmt::Display for Breach {
         let Breach { place, rule } = *self;
         let number = rule.number();
         write!(f, "place {place} breaks rule {number}: {rule}")
+    }
+}
+
+impl From<Breach> for Refusal {
+    ghost use Rattle.std.specs.Prelude.{◌≡◌};
+    ghost use Rattle.host.specs.declared.refusals.Refusal.TheVariants.{Unlawful};
+
+    ghost from_gives = { λ breach refusal. refusal ≡ Unlawful breach.place breach.rule };
+
+    fn from(breach: Breach) -> Refusal {
+        let Breach { place, rule } = breach;
+        Refusal::Unlawful { place, rule }
     }
 }

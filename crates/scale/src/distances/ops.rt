@@ -9,10 +9,10 @@ impl Distance {
     pub fn new(number: i32) -> Distance
         ensures { result ≡ distance_of number }
     {
-        if number < -8_000_001 || number > 8_000_001 || number % 2 == 0 {
-            return Distance { value: -8_000_001 };
+        match number {
+            -8_000_001..=8_000_001 if number % 2 != 0 => Distance { value: number },
+            _ => Distance::bottom(),
         }
-        Distance { value: number }
     }
 
     pub fn value(self) -> i32
