@@ -9,9 +9,10 @@ impl Distance {
     pub fn new(number: i32) -> Distance
         ensures { result ≡ distance_of number }
     {
-        match number {
-            -8_000_001..=8_000_001 if number % 2 != 0 => Distance { value: number },
-            _ => Distance::bottom(),
+        if (-8_000_001..=8_000_001).contains(&number) && number % 2 != 0 {
+            Distance { value: number }
+        } else {
+            Distance::bottom()
         }
     }
 
