@@ -1,5 +1,5 @@
 -- Tests joined in the order in which the code makes them.
-use Rattle.std.proofs.Common.{◌≡◌, Bool, true, false, ◌⊎◌, List, [], ◌∷◌, Some, None, Err, Decides, Option, Result, sym, ap, refl, ◌∙◌, inl, inr}
+use Rattle.std.proofs.Common.{◌≡◌, Bool, true, false, List, [], ◌∷◌, Some, None, Err, Decides, Option, Result, sym, ap, refl, ◌∙◌}
 use Rattle.std.proofs.lemmas.Bool.{false≢true}
 use Rattle.std.proofs.lemmas.Bool.Decides.{not_from_Decides}
 use Rattle.host.specs.declared.refusals.Refusal.{Refusal}
@@ -7,14 +7,9 @@ use Rattle.table.specs.Conditions.{Condition}
 use Rattle.table.specs.Refusals.{refuse_if, first}
 use Rattle.table.specs.Steps.{as_answer}
 
-module _ {P Q : Type 0} (r : Bool) where
-  -- the first of two holds, so the second tells
-  pub both_by_second : P → Decides r Q → Decides r (P × Q)
-  both_by_second p d = (λ e. (p, d.0 e), λ h. d.1 h.1)
-
-  -- the first of two does not hold, so the second tells
-  pub either_by_second : (P → ⊥) → Decides r Q → Decides r (P ⊎ Q)
-  either_by_second n d = (λ e. inr (d.0 e), λ h. elim h [ inl p ↦ absurd (n p) | inr q ↦ d.1 q ])
+-- the first of two holds, so the second tells
+pub both_by_second : {P Q : Type 0} (r : Bool) → P → Decides r Q → Decides r (P × Q)
+both_by_second r p d = (λ e. (p, d.0 e), λ h. d.1 h.1)
 
 -- what does not hold is told by false
 pub told_false : (P : Type 0) → (P → ⊥) → Decides false P

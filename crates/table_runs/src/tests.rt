@@ -526,6 +526,7 @@ fn with(place: u8, row: Row) -> Plain {
 }
 
 /// The place and the number of the rule that `check` finds broken, or 255 and 0.
+// Stays: numbers, since it is the place's and the rule's number that these tests hold fast.
 fn found(host: &Plain) -> (u8, u8) {
     match table::check(host) {
         Ok(()) => (NONE, 0),
