@@ -16,15 +16,19 @@ const BAY_FIRST: u8 = 8;
 const BAY_ROWS: u8 = 48;
 
 fn print_wrong_word(rt: &HostRuntime, wrong: WrongWord<'_>) -> anyhow::Result<()> {
-    let WrongWord { word, line, byte, .. } = wrong;
+    let WrongWord {
+        word,
+        line,
+        byte,
+        ..
+    } = wrong;
     let number = Refusal::TableWord { line, byte }.number();
     let word = String::from_utf8_lossy(rt.alloc(), word)?;
     println!(rt; "refused by {number}: line {line}, byte {byte}: wrong word \"{word}\"")?;
     Ok(())
 }
 
-// Stays: this, the next and `read_file` are twins of a few printing lines in `sled_book`; one for both would be
-// public, and no contract says what it prints.
+// Stays: twin of that in `sled_book`, a few lines that print; a library of the two would hold nothing that a contract can say.
 fn print_lawfulness<H: Host>(rt: &HostRuntime, host: &H) -> anyhow::Result<()> {
     match check(host) {
         Ok(()) => println!(rt; "the table is lawful")?,
@@ -36,6 +40,7 @@ fn print_lawfulness<H: Host>(rt: &HostRuntime, host: &H) -> anyhow::Result<()> {
     Ok(())
 }
 
+// Stays: twin of that in `sled_book`, a few lines that print; a library of the two would hold nothing that a contract can say.
 fn print_table<H: Host>(rt: &HostRuntime, host: &H) -> anyhow::Result<()> {
     let mut buf = vec![in rt.alloc(); 0u8; 65536]?;
     match write_table(host, &mut buf) {
@@ -78,15 +83,11 @@ fn store(rt: &HostRuntime, rows: &[Row; 255]) -> anyhow::Result<()> {
     Ok(())
 }
 
-fn read_file(rt: &HostRuntime, path: &str) -> anyhow::Result<Vec<u8>> {
-    fs::read(rt, path).map_err(|e| anyhow!("cannot read {path}: {e}"))
-}
-
 fn run(rt: &HostRuntime) -> anyhow::Result<()> {
     let Some(path) = env::args(rt)?.nth(1) else {
         bail!("usage: sled TABLE, with the file of a table text");
     };
-    let text = read_file(rt, path.as_str())?;
+    let text = fs::read(rt, path.as_str()).map_err(|e| anyhow!("cannot read {path}: {e}"))?;
     let bytes = text.len();
     println!(rt; "{path}: {bytes} bytes")?;
     match read_table(&text) {
