@@ -6,19 +6,13 @@ mod formulas;
 mod properties;
 
 use anyhow::{anyhow, bail};
+use case_text::text_of_line;
 use formulas::FormulaText;
 use ftpl::books::Book;
 use properties::PropertyText;
-use std::alloc::{AllocError, Global};
 use std::{env, fs};
 use table_text::WrongWord;
 use whole_book::{BookError, read_book};
-
-/// The text that a line of the file writes.
-// Stays: twin of that in `table_cases`; a library for its one line would say nothing more plainly.
-fn decoded(heap: Global, line: &str) -> Result<String, AllocError> {
-    line.replace(heap, "\\n", "\n")?.replace(heap, "\\0", "\0")
-}
 
 fn print_conditions(rt: &HostRuntime, conditions: &[u8]) -> anyhow::Result<()> {
     if conditions.is_empty() {
@@ -70,9 +64,9 @@ fn run(rt: &HostRuntime) -> anyhow::Result<()> {
         bail!("usage: book_cases FILE");
     };
     let cases = fs::read_to_string(rt, path.as_str())?;
-    for (before, line) in cases.lines().enumerate() {
-        let text = decoded(rt.alloc(), line)?;
-        judge(rt, before.saturating_add(1), text.as_bytes())?;
+    for (number, line) in (1usize..).zip(cases.lines()) {
+        let text = text_of_line(rt.alloc(), line)?;
+        judge(rt, number, &text)?;
     }
     Ok(())
 }

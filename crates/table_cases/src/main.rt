@@ -3,26 +3,9 @@
 #![tactic(auto)]
 
 use anyhow::anyhow;
-use std::alloc::{AllocError, Global};
+use case_text::text_of_line;
 use std::{env, fs};
 use table_text::read_table;
-
-fn decoded(heap: Global, line: &str) -> Result<Vec<u8>, AllocError> {
-    let mut text = Vec::new(heap);
-    let mut bytes = line.bytes();
-    while let Some(b) = bytes.next() {
-        let decoded = match b {
-            b'\\' => match bytes.next() {
-                Some(b'n') => b'\n',
-                Some(_) => 0,
-                None => break,
-            },
-            b => b,
-        };
-        text.push(decoded)?;
-    }
-    Ok(text)
-}
 
 fn judge(rt: &HostRuntime, number: usize, text: &[u8]) -> anyhow::Result<()> {
     match read_table(text) {
@@ -46,7 +29,7 @@ fn run(rt: &HostRuntime) -> anyhow::Result<()> {
     };
     let cases = fs::read_to_string(rt, path.as_str())?;
     for (number, line) in (1usize..).zip(cases.lines()) {
-        let text = decoded(rt.alloc(), line)?;
+        let text = text_of_line(rt.alloc(), line)?;
         judge(rt, number, &text)?;
     }
     Ok(())
