@@ -5,6 +5,7 @@ pub mod Sound
 pub mod Onward
 pub mod Operations
 pub mod Steps
+pub mod Moves
 pub mod Tested
 pub mod Binding
 pub mod Stopping

@@ -10,7 +10,7 @@ pub enum Quantifier {
 }
 
 /// The kind of the rows that a variable runs over.
-#[derive(Clone, Copy)]
+#[derive(Clone, Copy, PartialEq, Eq, Debug)]
 pub enum VariableKind {
     /// `comp`
     Component,
