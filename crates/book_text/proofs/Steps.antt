@@ -1,5 +1,5 @@
 -- How what one part took joins with what the next took, and how a stop in a part is a stop in the whole.
-use Rattle.std.proofs.Common.{◌≡◌, ℕ, ◌+◌, ◌-◌, ◌<◌, ◌≤◌, Bool, true, false, cond, ◌&&◌, eqb, ltb, List, [], ◌∷◌, ◌++◌, length, get_or, codes, sym, refl, ap, ◌∙◌, subst, ⊎_elim, true≢false, append-nil, arith, Result, Err, MatchResult}
+use Rattle.std.proofs.Common.{◌≡◌, ℕ, ◌+◌, ◌-◌, ◌<◌, ◌≤◌, Bool, true, false, cond, ◌&&◌, eqb, ltb, List, [], ◌∷◌, ◌++◌, length, get_or, codes, sym, refl, ap, ◌∙◌, subst, ⊎_elim, true≢false, append-nil, arith}
 use lib.ListN.{length-map}
 use Rattle.std.specs.Str.{bytes_eq}
 use Rattle.std.proofs.lemmas.List.{get_or_past}
@@ -17,10 +17,6 @@ use Rattle.book_text.specs.Took.{Took, Failed, Shut, Unjoined}
 use Rattle.book_words.proofs.Parting.{part_join, part_first, part_none, part_one}
 use Rattle.book_text.proofs.Lexical.{same_true}
 use Rattle.book_text.proofs.Complete.{not_run, join_and, join_or, open_run, run_append, start, complete}
-
--- a reader that stopped at e
-pub stops_at : {A : Type 0} (P : A → Type 0) {st : State} {s : List Text} {a : ℕ} (r : Result A Stop) (e : ℕ) → r ≡ Err (Wrong e) → Stuck st s a e → MatchResult r P (Failed st s a)
-stops_at P {st} {s} {a} r e q h = subst (λ z. MatchResult z P (Failed st s a)) (sym q) h
 
 pub mid_first : (s : List Text) (b e : ℕ) → b < e → e ≤ length s → part s b e ≡ get_or s b [] ∷ part s (b + 1) e
 mid_first s b e h k = part_first [] s b e h k

@@ -21,7 +21,7 @@ impl<'a> Cursor<'a> {
     ghost use Rattle.book_text.specs.Cursors.{Behind};
 
     /// The next word, an empty one behind the last.
-    pub fn word(self) -> &'a [u8]
+    pub(crate) fn word(self) -> &'a [u8]
         ensures { result.now ≡ slice_index_or (words_of self.entry.tokens.now) self.entry.at [] }
     {
         word_at(self.tokens, self.at)
@@ -40,9 +40,9 @@ impl<'a> Cursor<'a> {
     }
 
     /// Behind the next word, if it is this one.
-    pub fn behind(self, text: &[u8]) -> Option<Self>
+    pub(crate) fn behind(self, text: &[u8]) -> Option<Self>
         requires { 0 < length text.now }
-        ensures { MatchOption result (bytes_eq (slice_index_or (words_of self.entry.tokens.now) self.entry.at []) text.now ≡ false) (λ c. Behind self.entry text.now c) }
+        ensures { MatchOption result (bytes_eq (slice_index_or (words_of self.entry.tokens.now) self.entry.at []) text.now ≡ false) (λ c. Behind words_of self.entry text.now c) }
     {
         if self.word() == text {
             Some(self.to(self.at + 1))
@@ -52,9 +52,9 @@ impl<'a> Cursor<'a> {
     }
 
     /// Behind the next word, which has to be this one.
-    pub fn expect(self, text: &[u8]) -> Result<Self, Stop>
+    pub(crate) fn expect(self, text: &[u8]) -> Result<Self, Stop>
         requires { 0 < length text.now }
-        ensures { MatchResult result (λ c. Behind self.entry text.now c) (λ e. (e ≡ Wrong self.entry.at) × (bytes_eq (slice_index_or (words_of self.entry.tokens.now) self.entry.at []) text.now ≡ false)) }
+        ensures { MatchResult result (λ c. Behind words_of self.entry text.now c) (λ e. (e ≡ Wrong self.entry.at) × (bytes_eq (slice_index_or (words_of self.entry.tokens.now) self.entry.at []) text.now ≡ false)) }
     {
         self.behind(text).ok_or(Stop::Wrong(self.at))
     }

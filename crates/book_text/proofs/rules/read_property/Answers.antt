@@ -2,7 +2,7 @@ use Rattle.std.proofs.Common.{arith, rules}
 use Rattle.book_words.specs.Cuts.{words_of}
 use Rattle.book_text.proofs.Moves.{stops_with}
 use Rattle.book_text.proofs.Steps.{as_long}
-use Rattle.book_text.proofs.Stopping.{stopped, behind, rule_whole}
+use Rattle.book_text.proofs.Stopping.{stopped, behind}
 use Rattle.book_text.proofs.rules.read_property.Goals as goal
 
 pub returns-in_err-rule : goal.returns-in_err-rule

@@ -4,7 +4,9 @@ use Rattle.book_text.specs.Rules.{Over, TestSays}
 use Rattle.book_text.specs.States.{variable_of, variable_fits, first_fits, second_fits, kind_in}
 use Rattle.book_words.specs.Cuts.{words_of}
 use Rattle.book_text.specs.Words.{keyword_of, keyword_text, variable_text}
-use Rattle.book_text.proofs.Steps.{as_long, stops_at}
+use Rattle.book_text.specs.declared.parts.Stop.TheVariants.{Wrong}
+use Rattle.book_text.proofs.Moves.{stops_with}
+use Rattle.book_text.proofs.Steps.{as_long}
 use Rattle.book_text.proofs.Tested.{no_keyword, not_viable, no_first, no_second, took_up, took_test, two_operands}
 use Rattle.book_text.proofs.single_tests.single_test.Goals as goal
 
@@ -12,7 +14,7 @@ pub returns-in_err-keyword : goal.returns-in_err-keyword
 returns-in_err-keyword c =
     let p = c.args.place in
     let s = words_of p.cursor.tokens.now in
-    stops_at _ c.from_residual.result p.cursor.at (search rules) (no_keyword c.args.scope (8 - p.depth) p.count s p.cursor.at (omega (arith, as_long p.cursor.tokens.now, p.cursor.inside)) (ap keyword_of (sym c.word_at.ensures) ∙ sym c.as_keyword.ensures ∙ c.in_err-keyword.ensures.ok_part))
+    stops_with _ _ c.from_residual.result (Wrong p.cursor.at) (search rules) (no_keyword c.args.scope (8 - p.depth) p.count s p.cursor.at (omega (arith, as_long p.cursor.tokens.now, p.cursor.inside)) (ap keyword_of (sym c.word_at.ensures) ∙ sym c.as_keyword.ensures ∙ c.in_err-keyword.ensures.ok_part))
 
 pub returns-then-not-is_viable : goal.returns-then-not-is_viable
 returns-then-not-is_viable c =
@@ -29,7 +31,7 @@ returns-in_err-subject c =
     let w = c.in_ok-keyword.keyword in
     let e : keyword_of (get_or s p.cursor.at []) ≡ Some w = ap keyword_of (sym c.word_at.ensures) ∙ sym c.as_keyword.ensures ∙ c.in_ok-keyword.ensures.ok_part in
     let f = MatchOption-at_none _ _ c.in_err-subject.ensures.ok_part c.first_operand.ensures in
-    stops_at _ c.from_residual-in_err-subject.result (p.cursor.at + 1) (search rules) (no_first sc (8 - p.depth) p.count s p.cursor.at w e (sym c.if-not-is_viable.ensures) (ap (λ z. variable_fits sc (first_fits w) (variable_of sc z)) (sym c.word_at-first.ensures) ∙ f))
+    stops_with _ _ c.from_residual-in_err-subject.result (Wrong (p.cursor.at + 1)) (search rules) (no_first sc (8 - p.depth) p.count s p.cursor.at w e (sym c.if-not-is_viable.ensures) (ap (λ z. variable_fits sc (first_fits w) (variable_of sc z)) (sym c.word_at-first.ensures) ∙ f))
 
 pub returns-in_err-test-in_default : goal.returns-in_err-test-in_default
 returns-in_err-test-in_default c =
@@ -41,7 +43,7 @@ returns-in_err-test-in_default c =
     let e : keyword_of (get_or s p.cursor.at []) ≡ Some w = ap keyword_of (sym c.word_at.ensures) ∙ sym c.as_keyword.ensures ∙ c.in_ok-keyword.ensures.ok_part in
     let f = MatchOption-at_some _ _ _ c.in_ok-subject.ensures.ok_part c.first_operand.ensures in
     let g = MatchOption-at_none _ _ c.in_err-test-in_default.ensures.ok_part c.second_operand.ensures in
-    stops_at _ c.from_residual-in_err-test-in_default.result (p.cursor.at + 2) (search rules)
+    stops_with _ _ c.from_residual-in_err-test-in_default.result (Wrong (p.cursor.at + 2)) (search rules)
     (no_second sc (8 - p.depth) p.count s p.cursor.at w e (sym c.if-not-is_viable.ensures) x (ap (variable_of sc) (sym c.word_at-first.ensures) ∙ f.0) f.1 (two_operands sc (8 - p.depth) p.count w c.in_default.not-Up) (ap (second_fits sc w) (sym c.word_at-second.ensures) ∙ g))
 
 pub returns-in-Up : goal.returns-in-Up

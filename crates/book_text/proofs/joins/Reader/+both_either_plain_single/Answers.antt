@@ -1,12 +1,13 @@
 use Rattle.std.specs.Str.{bytes_eq}
-use Rattle.std.proofs.Common.{◌≡◌, ◌+◌, ◌-◌, ◌<◌, [], length, get_or, codes, sym, ap, ◌∙◌, subst, arith, rules}
+use Rattle.std.proofs.Common.{◌≡◌, ◌+◌, ◌-◌, codes, sym, ap, ◌∙◌, subst, arith, rules}
 use Rattle.std.proofs.lemmas.Result.{MatchResult-weaker}
 use Rattle.book_text.specs.Rules.{loose, tight, plain}
 use Rattle.book_text.specs.States.{turning, grouping, testing, Stuck}
 use Rattle.book_text.specs.Took.{Took, Failed}
 use Rattle.book_words.specs.Cuts.{words_of}
 use Rattle.book_text.proofs.Moves.{stops_with, read_on, read_behind, continued, word_there}
-use Rattle.book_text.proofs.Steps.{as_long, failed_or, failed_and, took_or, took_and, took_loose, took_tight, took_plain, took_not, took_group, failed_as, failed_group, not_closed, as_group, as_test, too_deep, stuck_here, stops_at, failed_turned}
+use Rattle.book_text.specs.declared.parts.Stop.TheVariants.{Wrong}
+use Rattle.book_text.proofs.Steps.{as_long, failed_or, failed_and, took_or, took_and, took_loose, took_tight, took_plain, took_not, took_group, failed_as, failed_group, not_closed, as_group, as_test, too_deep, stuck_here, failed_turned}
 use Rattle.book_text.proofs.joins.Reader.+both_either_plain_single.Goals as goal
 
 pub both-returns-in_default : goal.both-returns-in_default
@@ -80,10 +81,10 @@ plain-returns-in_err-end t c =
     let e = c.in_err-end.ensures in
     let i = c.inside.ensures in
     let b = c.in-Some.ensures in
-    stops_at _ c.from_residual-in_err-end.result x.next (search rules)
+    stops_with _ _ c.from_residual-in_err-end.result (Wrong x.next) (search rules)
     (not_closed sc p.depth p.count p.cursor.at (words_of p.cursor.tokens.now) x (omega arith) (omega (arith, p.shallow)) b.word
     (read_behind (λ d k s a. Took loose sc d k s a x) p c.inside.result b i.cursor i.depth i.count c.in_ok-group.ensures)
-    (ap (λ z. bytes_eq z (codes ")")) (sym (word_there p.cursor c.to.result (c.to.ensures.tokens ∙ b.tokens) c.to.ensures.at)) ∙ e.1))
+    (ap (λ z. bytes_eq z (codes ")")) (sym (word_there words_of p.cursor c.to.result (c.to.ensures.tokens ∙ b.tokens) c.to.ensures.at)) ∙ e.1))
 
 pub plain-returns : goal.plain-returns
 plain-returns t c =
@@ -93,7 +94,7 @@ plain-returns t c =
     let e = c.in_ok-end.ensures in
     let i = c.inside.ensures in
     let b = c.in-Some.ensures in
-    let z = sym (word_there p.cursor c.to.result (c.to.ensures.tokens ∙ b.tokens) c.to.ensures.at) ∙ e.word in
+    let z = sym (word_there words_of p.cursor c.to.result (c.to.ensures.tokens ∙ b.tokens) c.to.ensures.at) ∙ e.word in
     subst (λ n. Took plain sc p.depth p.count (words_of p.cursor.tokens.now) p.cursor.at (record { tests = x.tests; next = n; count = x.count })) (sym (e.at ∙ ap (λ n. n + 1) c.to.ensures.at))
     (took_group (words_of p.cursor.tokens.now) x (omega arith) b.word (read_behind (λ d k s a. Took loose sc d k s a x) p c.inside.result b i.cursor i.depth i.count c.in_ok-group.ensures) z)
 
