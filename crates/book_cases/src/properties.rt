@@ -51,8 +51,8 @@ fn write_named<W: fmt::Write>(
 ) -> fmt::Result {
     let variable = variable_word(subject);
     write!(f, "{test} {variable} ")?;
-    let (bytes, len) = unpack_name(name);
-    for b in &bytes[0..len] {
+    let bytes = unpack_name(name);
+    for b in bytes.as_slice() {
         f.write_char(*b as char)?;
     }
     Ok(())

@@ -37,8 +37,7 @@ fn put_name(buf: &mut [u8], at: usize, name: u64) -> usize
     ensures puts { Puts buf.old at (name_bytes name) buf.new result }
     ensures bound { result ≤ at + 8 }
 {
-    let (bytes, len) = unpack_name(name);
-    put_bytes(buf, at, &bytes[0..len])
+    put_bytes(buf, at, unpack_name(name).as_slice())
 }
 
 // An owner or a link.
