@@ -1,4 +1,3 @@
-pub mod Spelling
 pub mod Lexical
 pub mod Complete
 pub mod Sound

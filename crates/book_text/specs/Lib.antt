@@ -1,6 +1,5 @@
 pub mod Cursors
 pub mod Places
-pub mod Puts
 pub mod Rules
 pub mod States
 pub mod Texts

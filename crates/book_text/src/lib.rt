@@ -3,7 +3,6 @@
 
 mod cursors;
 mod joins;
-mod numerals;
 mod operands;
 mod parts;
 mod places;

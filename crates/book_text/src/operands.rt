@@ -6,11 +6,11 @@ ghost use Rattle.book_text.specs.Words.{variable_text, keyword_text};
 ghost use Rattle.book_text.specs.Rules.{Over, TestSays};
 ghost use Rattle.book_text.specs.States.{is_kind, kind_in, variable_of, variable_fits, first_fits, second_fits};
 
-use crate::numerals::value_within;
 use crate::scopes::{Scope, as_variable, first_fits, kind_in};
 use crate::words::Keyword;
 use ftpl::properties::{Test, Variable, VariableKind};
 use host::pack_name;
+use numerals::value_within;
 
 /// The first operand of a test.
 pub(crate) fn first_operand(scope: Scope, keyword: Keyword, word: &[u8]) -> Option<Variable>
