@@ -1,5 +1,5 @@
 -- What is read at a spot behind a sign is read from there on in the words of the spot before.
-use Rattle.std.proofs.Common.{◌≡◌, ℕ, ◌+◌, ◌<◌, List, length, Bor, sym, ap, ◌∙◌, subst, arith}
+use Rattle.std.proofs.Common.{◌≡◌, ℕ, ◌+◌, List, length, Bor, ap, ◌∙◌, subst, arith}
 use Rattle.book_words.specs.declared.tokens.Token.{Token}
 use Rattle.book_text.specs.Cursors.{Behind}
 use Rattle.book_text.specs.Rules.{Text}

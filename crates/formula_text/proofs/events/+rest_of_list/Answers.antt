@@ -6,7 +6,7 @@ use Rattle.book_text.specs.declared.parts.Stop.TheVariants.{Wrong}
 use Rattle.book_text.proofs.Lexical.{same_true}
 use Rattle.book_text.proofs.Moves.{stops_with, read_at}
 use Rattle.formula_text.specs.Words.{event_of, rule_words}
-use Rattle.formula_text.specs.States.{dead, operation}
+use Rattle.formula_text.specs.States.{operation}
 use Rattle.formula_text.specs.Took.{Lists, EventsTook, Failed}
 use Rattle.formula_text.proofs.Moves.{as_stop}
 use Rattle.formula_text.proofs.Steps.{rule_long}

@@ -2,7 +2,7 @@ use Rattle.std.proofs.Common.{◌≤◌, arith, rules}
 use Rattle.book_words.specs.Cuts.{words_of}
 use Rattle.book_text.proofs.Moves.{stops_with}
 use Rattle.book_text.proofs.Steps.{as_long}
-use Rattle.formula_text.proofs.Opened.{no_properties, front_inside, front_failed, front_took, front_behind}
+use Rattle.formula_text.proofs.Opened.{no_properties, front_failed, front_took, front_behind}
 use Rattle.formula_text.proofs.rules.read_formula.Goals as goal
 
 pub returns-then-count-eq0 : goal.returns-then-count-eq0

@@ -1,4 +1,4 @@
-use Rattle.std.proofs.Common.{◌≡◌, ◌+◌, sym, ap, ◌∙◌, subst, arith, rules}
+use Rattle.std.proofs.Common.{◌≡◌, ◌+◌, sym, subst, arith, rules}
 use Rattle.book_text.proofs.Moves.{stops_with, read_at}
 use Rattle.formula_text.specs.States.{ready, bracket, Stuck}
 use Rattle.formula_text.specs.Took.{IsList, ListTook, Lines, LineTook, Failed}

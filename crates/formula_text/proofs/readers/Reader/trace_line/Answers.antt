@@ -1,4 +1,4 @@
-use Rattle.std.proofs.Common.{◌≡◌, ◌+◌, true, [], codes, sym, ap, ◌∙◌, subst, arith, rules}
+use Rattle.std.proofs.Common.{◌+◌, true, [], codes, sym, ap, ◌∙◌, subst, arith, rules}
 use Rattle.std.specs.Str.{bytes_eq}
 use Rattle.ftpl.specs.declared.formulas.Core.TheVariants as cores
 use Rattle.book_text.specs.declared.parts.Stop.TheVariants.{Wrong}
