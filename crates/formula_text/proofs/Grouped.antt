@@ -67,10 +67,6 @@ shut_alone : (g : Sign) (s : List Text) (e k : ℕ) → Shut (part g) s e k → 
 shut_alone ands s e k h u = u
 shut_alone ors s e k h u = (h, u)
 
-sign_some : (g : Sign) → sign_text g ≡ [] → ⊥
-sign_some ands e = let z : ◌≡◌ {A = ℕ} 0 1 = cc in omega arith
-sign_some ors e = let z : ◌≡◌ {A = ℕ} 0 1 = cc in omega arith
-
 -- the sign stands at e, and a leaf may follow
 pub record Joins (s : List Text) (e k : ℕ) (t : Text) : Type 0 where
   pub room : k < 4

@@ -1,4 +1,3 @@
-pub mod Parts
 pub mod Told
 pub mod Lining
 pub mod PropertyLines
