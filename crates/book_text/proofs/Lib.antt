@@ -9,4 +9,3 @@ pub mod Tested
 pub mod Binding
 pub mod Stopping
 pub mod Properly
-pub mod Refusing

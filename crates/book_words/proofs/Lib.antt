@@ -2,3 +2,4 @@ pub mod Parting
 pub mod Layouts
 pub mod Finding
 pub mod Wrongs
+pub mod Told

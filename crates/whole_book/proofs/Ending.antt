@@ -10,13 +10,13 @@ use Rattle.book_text.specs.declared.parts.Stop.TheVariants.{Wrong, Memory}
 use Rattle.formula_text.specs.Wrong.{Stopped as FormulaStopped}
 use Rattle.book_words.specs.declared.tokens.Token.{Token}
 use Rattle.book_words.specs.Cuts.{words_of, part}
-use Rattle.whole_book.specs.Among.{WrongAt}
+use Rattle.book_words.specs.Among.{WrongAt}
 use Rattle.whole_book.specs.declared.entries.Head.TheVariants.{Property, Condition, Formula}
 use Rattle.whole_book.specs.Lines.{Body, last_from}
 use Rattle.whole_book.specs.Took.{BodyStopped, NoEnd}
 
 pub property_stopped : (k : ℕ) (s : List Text) (r : Stop) → PropertyStopped s r → BodyStopped k Property s r
-property_stopped k s (Wrong e) x = record { inside = x.inside; before = x.before; never = x.never; lacking = x.lacking }
+property_stopped k s (Wrong e) x = x
 property_stopped k s Memory x = tt
 
 pub formula_stopped : (k : ℕ) (s : List Text) (r : Stop) → 1 ≤ k → FormulaStopped k s r → BodyStopped k Formula s r

@@ -1,4 +1,3 @@
-pub mod Told
 pub mod Lining
 pub mod PropertyLines
 pub mod FormulaLines

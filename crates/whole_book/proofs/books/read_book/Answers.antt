@@ -1,6 +1,6 @@
 use Rattle.std.proofs.Common.{◌≤◌, length, vec_items, subst, arith}
 use Rattle.book_words.specs.Cuts.{words_of}
-use Rattle.whole_book.proofs.Told.{text_wrong, text_broken, no_text}
+use Rattle.book_words.proofs.Told.{text_wrong, text_broken, no_text}
 use Rattle.whole_book.specs.Books.{IsBook}
 use Rattle.whole_book.specs.Took.{Stopped}
 use Rattle.whole_book.proofs.Adding.{some_book}

@@ -14,7 +14,7 @@ use Rattle.book_words.specs.Cuts.{words_of, Points}
 use Rattle.book_words.specs.Cutting.{Cutting}
 use Rattle.book_words.specs.Layout.{Proper, Stays}
 use Rattle.book_words.specs.Wrong.{Whole, TextOf, FirstWrong}
-use Rattle.whole_book.specs.Among.{WrongAt}
+use Rattle.book_words.specs.Among.{WrongAt}
 use Rattle.book_words.proofs.Layouts.{not_sign, not_plain_10}
 use Rattle.book_words.proofs.Wrongs.{wrong_inside, wrong_behind}
 
