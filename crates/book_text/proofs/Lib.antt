@@ -8,4 +8,4 @@ pub mod Moves
 pub mod Tested
 pub mod Binding
 pub mod Stopping
-pub mod Properly
+pub mod PropertyLines

@@ -3,3 +3,4 @@ pub mod Layouts
 pub mod Finding
 pub mod Wrongs
 pub mod Told
+pub mod Lining

@@ -1,5 +1,3 @@
-pub mod Lining
-pub mod PropertyLines
 pub mod FormulaLines
 pub mod Lists
 pub mod Going

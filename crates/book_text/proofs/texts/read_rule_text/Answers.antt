@@ -3,7 +3,7 @@ use Rattle.book_words.specs.Cuts.{words_of}
 use Rattle.book_text.specs.Wrong.{IsRule, Stopped}
 use Rattle.book_words.proofs.Told.{text_wrong, text_broken}
 use Rattle.book_text.specs.Rules.{form}
-use Rattle.book_text.proofs.Properly.{rule_proper}
+use Rattle.book_text.proofs.PropertyLines.{rule_proper}
 use Rattle.book_text.proofs.texts.read_rule_text.Goals as goal
 
 pub returns-in-Ok-2 : goal.returns-in-Ok-2

@@ -10,7 +10,6 @@ use Rattle.book_words.specs.declared.bytes.Class.TheVariants.{Line, Sign, Word}
 use Rattle.book_words.specs.Bytes.{kind_of, is_sign}
 use Rattle.book_words.specs.Layout.{Proper}
 use Rattle.book_words.proofs.Layouts.{not_plain_10}
-use Rattle.formula_text.proofs.Fixed.{word_proper}
 
 -- a sign or a word
 abbrev pub Inside : List ℕ → Type 0
@@ -48,6 +47,10 @@ decimal_inside n l = inr (λ e. omega (arith, ap length e, decimal_nonempty n l)
 -- and so is one behind some plain bytes
 pub keyed_inside : (key : List ℕ) (n : ℕ) → n < 2 ^ 64 → AllByRecursion (λ b. kind_of b ≡ Plain) key → Inside (key ++ decimal n)
 keyed_inside key n l h = inr (λ e. omega (arith, ap length e, length-append key (decimal n), decimal_nonempty n l), All-append (λ b. kind_of b ≡ Plain) key (decimal n) h (decimal_plain n l))
+
+-- bytes of which each is plain, by a test that computes
+pub word_proper : (b : ℕ) (t : List ℕ) → AllByRecursion (λ b. kind_of b ≡ Plain) (b ∷ t) → Proper Word (b ∷ t)
+word_proper b t h = ((λ e. let z : ◌≡◌ {A = ℕ} 0 1 = cc in omega arith), h)
 
 -- a word by its bytes, of which each is plain
 pub word_inside : (b : ℕ) (t : List ℕ) → AllByRecursion (λ b. kind_of b ≡ Plain) (b ∷ t) → Inside (b ∷ t)

@@ -1,4 +1,4 @@
--- The words of a rule are a line: words and signs up to its end.
+-- The words of a rule are a line, words and signs up to its end, and can be laid out.
 use Rattle.std.proofs.Common.{◌≡◌, ℕ, suc, ◌^◌, ◌<◌, ◌≤◌, true, ◌&&◌, ◌||◌, leb, List, [], ◌∷◌, ◌++◌, length, ℤ, pos, negsuc, Some, None, codes, Option, sym, refl, ap, ◌∙◌, subst, inl, inr, ⊎_elim, append_assoc, arith}
 use borrow.Author.Differences.{ints}
 use Rattle.std.specs.Fmt.{signed_decimal}
@@ -17,8 +17,10 @@ use Rattle.ftpl.specs.declared.properties.Test.{Test}
 use Rattle.ftpl.specs.declared.properties.Test.TheVariants as tests
 use Rattle.ftpl.specs.declared.properties.Binder.{Binder}
 use Rattle.book_words.specs.declared.bytes.ByteKind.TheVariants.{Plain}
+use Rattle.book_words.specs.declared.bytes.Class.{Class}
 use Rattle.book_words.specs.Bytes.{kind_of}
-use Rattle.whole_book.proofs.Lining.{Inside, Lined, apart, decimal_plain}
+use Rattle.book_words.specs.Layout.{Proper}
+use Rattle.book_words.proofs.Lining.{Inside, Lined, lined_proper, apart, decimal_plain}
 use Rattle.book_text.specs.Rules.{Text, Within, TestSays, Form, Level, Reads, a_test, a_group, a_plain, a_not, one_tight, and_tight, one_loose, or_loose, binder_text, inner_text}
 use Rattle.book_text.specs.Words.{variable_text, quantifier_text, opening_text, kind_text}
 use Rattle.book_text.specs.Wrong.{IsRule}
@@ -141,3 +143,6 @@ rule_lined p r =
       inside = All-append Inside (binder_text b c) (codes ":" ∷ h.tests) (opening_proper b.quantifier, (lit_v, (sign_colon, (kind_proper b.kind, inner_proper c)))) (sign_colon, reads_proper h.reads);
       words = h.words ∙ sym (append_assoc (binder_text b c) (codes ":" ∷ h.tests) (codes "\n" ∷ []));
     }
+
+pub rule_proper : (p : List Text) → IsRule p → AllByRecursion (λ t. (d : Class) × Proper d t) p
+rule_proper p r = lined_proper (rule_lined p r)
