@@ -20,6 +20,7 @@ pub(crate) fn rule_word<'a>(tokens: &[Token<'a>], i: usize) -> &'a [u8]
 }
 
 /// Behind the next word, if it is this one.
+// Stays: these two see the first word without its front, unlike a cursor's own; a trait for the two views would be longer than they are.
 pub(crate) fn behind<'a>(cursor: Cursor<'a>, text: &[u8]) -> Option<Cursor<'a>>
     requires { 0 < length text.now }
     ensures { MatchOption result (bytes_eq (slice_index_or (rule_words cursor.entry.tokens.now) cursor.entry.at []) text.now ≡ false) (λ c. Behind rule_words cursor.entry text.now c) }
