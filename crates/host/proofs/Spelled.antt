@@ -1,5 +1,5 @@
 -- Names as they are packed and as they are written.
-use Rattle.std.proofs.Common.{◌≡◌, ℕ, zero, suc, ◌+◌, ◌-◌, ◌*◌, ◌<◌, ◌≤◌, true, false, cond, ◌&&◌, ◌||◌, eqb, ltb, leb, List, [], ◌∷◌, ◌++◌, length, get_or, take, drop, replicate, Some, None, Option, Decides, MatchOption, sym, refl, ap, ◌∙◌, subst, ⊎_elim, true≢false, arith, length-append, length-drop, eq-eqb, eqb-true, ne_eqb, leb-true, ltb-false}
+use Rattle.std.proofs.Common.{◌≡◌, ℕ, zero, suc, ◌+◌, ◌-◌, ◌*◌, ◌<◌, ◌≤◌, Bool, true, false, cond, not, ◌&&◌, ◌||◌, eqb, ltb, leb, List, [], ◌∷◌, ◌++◌, length, get_or, take, drop, replicate, Some, None, Option, Decides, MatchOption, sym, refl, ap, ◌∙◌, subst, ⊎_elim, true≢false, arith, length-append, length-drop, eq-eqb, eqb-true, ne_eqb, leb-true, ltb-false}
 use Rattle.std.specs.Int.{w64, from_be_bytes}
 use Rattle.std.proofs.lemmas.Nat.{be_bytes_8}
 use Rattle.std.specs.Option.{option_eq, unwrap_or}
@@ -29,12 +29,15 @@ up_to_zero_lem (b ∷ bs) zero h before there = sym (cond-true (eqb b 0) [] (b �
 up_to_zero_lem (b ∷ bs) (suc r) h before there =
     ap (λ xs. b ∷ xs) (up_to_zero_lem bs r (omega arith) (λ k l. before (suc k) (omega arith)) (λ l. there (omega arith))) ∙ sym (cond-false (eqb b 0) [] (b ∷ up_to_zero bs) (ne_eqb b 0 (before 0 (omega arith))))
 
-or_all : (p n : ℕ) → p ≤ n → unwrap_or (cond (ltb p n) (Some p) None) n ≡ p
-or_all p n h =
+-- the first place that passes, or the length where none does
+pub position-or_length : {X : Type 0} (p : X → Bool) (xs : List X) → unwrap_or (position p xs) (length xs) ≡ position_or_len p xs
+position-or_length p xs =
+    let i = position_or_len p xs in
+    let n = length xs in
     ⊎_elim
-    (λ (t : ltb p n ≡ true). ap (λ b. unwrap_or (cond b (Some p) None) n) t)
-    (λ (f : ltb p n ≡ false). ap (λ b. unwrap_or (cond b (Some p) None) n) f ∙ omega (arith, ltb-false p n f))
-    (cases_Bool (ltb p n))
+    (λ (t : ltb i n ≡ true). ap (λ b. unwrap_or (cond b (Some i) None) n) t)
+    (λ (f : ltb i n ≡ false). ap (λ b. unwrap_or (cond b (Some i) None) n) f ∙ omega (arith, ltb-false i n f, prefix_len-le-length (λ x. not (p x)) xs))
+    (cases_Bool (ltb i n))
 
 -- so it is what stands before the first place of a zero byte
 pub take_first_zero : (bs : List ℕ) → take (unwrap_or (position (λ b. eqb b 0) bs) (length bs)) bs ≡ up_to_zero bs
@@ -42,7 +45,7 @@ take_first_zero bs =
     let p = λ (b : ℕ). eqb b 0 in
     let i = position_or_len p bs in
     let h = prefix_len-le-length _ bs in
-    ap (λ k. take k bs) (or_all i (length bs) h) ∙ up_to_zero_lem bs i h (λ k l e. true≢false (sym (eq-eqb _ 0 e) ∙ fails_before_first p bs k 0 l)) (λ l. eqb-true _ 0 (passes_at_first p bs 0 l))
+    ap (λ k. take k bs) (position-or_length p bs) ∙ up_to_zero_lem bs i h (λ k l e. true≢false (sym (eq-eqb _ 0 e) ∙ fails_before_first p bs k 0 l)) (λ l. eqb-true _ 0 (passes_at_first p bs 0 l))
 
 abbrev pub zeros : List ℕ
 zeros = replicate 8 0
