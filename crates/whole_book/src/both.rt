@@ -67,6 +67,7 @@ pub fn read_texts<'a, H: Host>(
         return Err(TextsError::Beyond);
     }
     let read = read_book(heap, book)?;
+    // the rows fit, so this refuses nothing; it could for no other reason
     put_table(&rows, host).map_err(|_| TextsError::Beyond)?;
     Ok(read)
 }
