@@ -1,5 +1,6 @@
 -- Quantifiers that were read, or the word at which they stopped.
-use Rattle.std.proofs.Common.{◌≡◌, ℕ, ◌+◌, ◌<◌, ◌≤◌, true, false, cond, List, [], ◌∷◌, ◌++◌, length, get_or, Some, None, codes, Option, sym, refl, ap, ◌∙◌, subst, arith}
+use Rattle.std.proofs.Common.{◌≡◌, ℕ, ◌+◌, ◌<◌, ◌≤◌, true, false, cond, List, [], ◌∷◌, ◌++◌, length, get_or, Some, None, codes, Option, sym, refl, ap, ◌∙◌, subst, arith, Result, MatchResult}
+use Rattle.std.specs.Option.{ok_or}
 use Rattle.std.specs.Str.{bytes_eq}
 use Rattle.std.proofs.lemmas.Bool.{cond-true, cond-false}
 use Rattle.ftpl.specs.declared.properties.Quantifier.{Quantifier}
@@ -9,6 +10,7 @@ use Rattle.ftpl.specs.declared.properties.VariableKind.TheVariants.{Component, P
 use Rattle.ftpl.specs.declared.properties.Binder.{Binder}
 use Rattle.book_text.specs.declared.parts.Part.{Part}
 use Rattle.book_text.specs.declared.parts.Stop.{Stop}
+use Rattle.book_text.specs.declared.parts.Stop.TheVariants.{Wrong}
 use Rattle.book_text.specs.declared.rules.Rule.{Rule}
 use Rattle.book_text.specs.declared.scopes.Scope.{Scope}
 use Rattle.book_text.specs.Rules.{Text, loose, form, scope_of, inner_kind, binder_text, RuleSays}
@@ -74,6 +76,11 @@ module _ (o : Option VariableKind) (s : List Text) (a : ℕ) where
             inside = omega arith;
             words = mid_first s a (a + 3) (omega arith) (omega arith) ∙ (λ i. n i ∷ (mid_first s (a + 1) (a + 3) (omega arith) (omega arith) ∙ (λ j. p j ∷ (ap (λ z. part s z (a + 3)) m ∙ mid_first s (a + 2) (a + 3) (omega arith) (omega arith) ∙ (λ k. t k ∷ (ap (λ z. part s z (a + 3)) l ∙ part_none s (a + 3)) k)) j)) i);
           }
+
+      -- what the third word says, or that it says nothing
+      pub kind_read : (k : Option VariableKind) (r : Result VariableKind Stop) → kind_of (get_or s (a + 2) []) ≡ k → r ≡ ok_or k (Wrong (a + 2)) → MatchResult r (Bound o s a) (Failed (naming o) s a)
+      kind_read None r q h = subst (λ z. MatchResult z (Bound o s a) (Failed (naming o) s a)) (sym h) (no_kind q)
+      kind_read (Some k) r q h = subst (λ z. MatchResult z (Bound o s a) (Failed (naming o) s a)) (sym h) (bound k q)
 
 -- the words of a variable lead on
 run_kind : (o : Option VariableKind) (k : VariableKind) → run (naming o) (name_of_next o ∷ codes ":" ∷ kind_text k ∷ []) ≡ scoped (extended o k)
@@ -163,8 +170,8 @@ module _ (s : List Text) (a : ℕ) where
     pub opening_inside : a < length s
     opening_inside = stands s a (opening_text q) (opening_some q) text
 
-    pub first_failed : (z : ℕ) → Stuck (naming None) s (a + 1) z → Stuck opening s a z
-    first_failed z x = stuck_step s a z opening_inside opened x
+    pub first_failed : (r : Stop) → Failed (naming None) s (a + 1) r → Failed opening s a r
+    first_failed r x = failed_step opening (naming None) s a r opening_inside opened x
 
     module _ (k : VariableKind) (w : Bound None s (a + 1) k) where
       first_run : run opening (part s a (a + 4)) ≡ scoped (record { outer = k; inner = None })
@@ -191,10 +198,10 @@ module _ (s : List Text) (a : ℕ) where
         pub second_inside : a + 4 < length s
         second_inside = stands s (a + 4) (quantifier_text p) (quantifier_some p) text₂
 
-        pub second_failed : (z : ℕ) → Stuck (naming (Some k)) s (a + 5) z → Stuck opening s a z
-        second_failed z x =
+        pub second_failed : (r : Stop) → Failed (naming (Some k)) s (a + 5) r → Failed opening s a r
+        second_failed r x =
             let m : a + 4 + 1 ≡ a + 5 = omega arith in
-            stuck_after s a (a + 4) z (omega arith) first_run (stuck_step s (a + 4) z second_inside again (subst (λ y. Stuck (naming (Some k)) s y z) (sym m) x))
+            one_failed r (failed_step (scoped (record { outer = k; inner = None })) (naming (Some k)) s (a + 4) r second_inside again (subst (λ y. Failed (naming (Some k)) s y r) (sym m) x))
 
         module _ (j : VariableKind) (w₂ : Bound (Some k) s (a + 5) j) where
           second_run : run opening (part s a (a + 8)) ≡ scoped (record { outer = k; inner = Some j })

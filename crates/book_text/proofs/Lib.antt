@@ -1,12 +1,11 @@
-pub mod Spelling
 pub mod Lexical
 pub mod Complete
 pub mod Sound
 pub mod Onward
 pub mod Operations
 pub mod Steps
+pub mod Moves
 pub mod Tested
 pub mod Binding
 pub mod Stopping
-pub mod Properly
-pub mod Refusing
+pub mod PropertyLines

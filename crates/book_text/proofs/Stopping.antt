@@ -4,7 +4,7 @@ use Rattle.std.proofs.lemmas.List.{take_all}
 use Rattle.book_text.specs.declared.parts.Stop.{Stop}
 use Rattle.book_text.specs.declared.parts.Stop.TheVariants.{Wrong, Memory}
 use Rattle.book_text.specs.declared.rules.Rule.{Rule}
-use Rattle.book_text.specs.Rules.{Text, PropertySays}
+use Rattle.book_text.specs.Rules.{Text}
 use Rattle.book_words.specs.Cuts.{part}
 use Rattle.book_text.specs.States.{State, dead, ended, opening, step, run, Running}
 use Rattle.book_text.specs.Took.{Failed, RuleTaken}
@@ -47,6 +47,3 @@ unfolding step
 behind s x t n =
     let e = rule_run t.says in
     wrong_from s x.next t.inside (λ q. ended_not (sym e ∙ q)) (ap (λ z. step z (get_or s x.next [])) e) (λ q y. n q)
-
-pub rule_whole : (s : List Text) (x : Rule) → RuleTaken s 0 x → x.next ≡ length s → PropertySays x.property s
-rule_whole s x t e = subst (PropertySays x.property) (ap (part s 0) e ∙ whole s) t.says

@@ -1,4 +1,5 @@
-pub mod Puts
+pub mod Cursors
+pub mod Places
 pub mod Rules
 pub mod States
 pub mod Texts

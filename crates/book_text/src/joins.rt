@@ -1,145 +1,90 @@
 // Tests joined by `|`, `&` and `!`, with parentheses.
-ghost use Rattle.std.specs.Prelude.{ℕ, ◌-◌, ◌<◌, ◌≤◌, length, MatchResult};
-ghost use Rattle.book_words.specs.Cuts.{words_of};
+ghost use Rattle.std.specs.Prelude.{MatchResult};
 ghost use Rattle.book_text.specs.Rules.{loose, tight, single as one_test, plain as one_group};
 ghost use Rattle.book_text.specs.States.{turning, grouping};
-ghost use Rattle.book_text.specs.Took.{Took, Failed};
+ghost use Rattle.book_text.specs.Places.{TookAt, FailedAt};
 
-use crate::parts::{Part, Stop, both_of, either_of, joins, not_of};
+use crate::parts::{Part, Stop, both_of, either_of, not_of};
+use crate::places::Place;
 use crate::scopes::Scope;
 use crate::single_tests::single_test;
-use crate::words::{is, word_at};
-use book_words::Token;
 use std::alloc::Global;
 
-/// Tests joined by `|`.
-#[cycle(both_either_plain_single)]
-pub(crate) fn either(
-    heap: Global,
-    scope: Scope,
-    tokens: &[Token<'_>],
-    at: usize,
-    depth: u8,
-    count: u8,
-) -> Result<Part, Stop>
-    requires { (at ≤ length tokens.now) × ((depth ≤ 8) × (count < 16)) }
-    ensures { MatchResult result (λ x. Took loose scope depth count (words_of tokens.now) at x) (λ e. Failed (turning scope (8 - depth) count) (words_of tokens.now) at e) }
-{
-    let left = match both(heap, scope, tokens, at, depth, count) {
-        Ok(part) => part,
-        Err(stop) => return Err(stop),
-    };
-    if !joins(tokens, left.next, left.count, b"|") {
-        return Ok(left);
-    }
-    let right = match either(heap, scope, tokens, left.next + 1, depth, left.count) {
-        Ok(part) => part,
-        Err(stop) => return Err(stop),
-    };
-    match either_of(heap, left.tests, right.tests) {
-        Ok(tests) => Ok(Part {
-            tests,
-            next: right.next,
-            count: right.count,
-        }),
-        Err(stop) => Err(stop),
-    }
+/// Reads the tests of a rule with these variables.
+#[derive(Clone, Copy)]
+pub(crate) struct Reader {
+    pub heap: Global,
+    pub scope: Scope,
 }
 
-/// Tests joined by `&`.
-#[cycle(both_either_plain_single)]
-fn both(
-    heap: Global,
-    scope: Scope,
-    tokens: &[Token<'_>],
-    at: usize,
-    depth: u8,
-    count: u8,
-) -> Result<Part, Stop>
-    requires { (at ≤ length tokens.now) × ((depth ≤ 8) × (count < 16)) }
-    ensures { MatchResult result (λ x. Took tight scope depth count (words_of tokens.now) at x) (λ e. Failed (turning scope (8 - depth) count) (words_of tokens.now) at e) }
-{
-    let left = match single(heap, scope, tokens, at, depth, count) {
-        Ok(part) => part,
-        Err(stop) => return Err(stop),
-    };
-    if !joins(tokens, left.next, left.count, b"&") {
-        return Ok(left);
-    }
-    let right = match both(heap, scope, tokens, left.next + 1, depth, left.count) {
-        Ok(part) => part,
-        Err(stop) => return Err(stop),
-    };
-    match both_of(heap, left.tests, right.tests) {
-        Ok(tests) => Ok(Part {
-            tests,
-            next: right.next,
-            count: right.count,
-        }),
-        Err(stop) => Err(stop),
-    }
-}
-
-/// A test or a group, perhaps turned by `!`.
-#[cycle(both_either_plain_single)]
-fn single(
-    heap: Global,
-    scope: Scope,
-    tokens: &[Token<'_>],
-    at: usize,
-    depth: u8,
-    count: u8,
-) -> Result<Part, Stop>
-    requires { (at ≤ length tokens.now) × ((depth ≤ 8) × (count < 16)) }
-    ensures { MatchResult result (λ x. Took one_test scope depth count (words_of tokens.now) at x) (λ e. Failed (turning scope (8 - depth) count) (words_of tokens.now) at e) }
-{
-    if !is(word_at(tokens, at), b"!") {
-        return plain(heap, scope, tokens, at, depth, count);
-    }
-    let inner = match plain(heap, scope, tokens, at + 1, depth, count) {
-        Ok(part) => part,
-        Err(stop) => return Err(stop),
-    };
-    match not_of(heap, inner.tests) {
-        Ok(tests) => Ok(Part {
-            tests,
-            next: inner.next,
-            count: inner.count,
-        }),
-        Err(stop) => Err(stop),
-    }
-}
-
-/// A test, or a group in parentheses.
-#[cycle(both_either_plain_single)]
-fn plain(
-    heap: Global,
-    scope: Scope,
-    tokens: &[Token<'_>],
-    at: usize,
-    depth: u8,
-    count: u8,
-) -> Result<Part, Stop>
-    requires { (at ≤ length tokens.now) × ((depth ≤ 8) × (count < 16)) }
-    ensures { MatchResult result (λ x. Took one_group scope depth count (words_of tokens.now) at x) (λ e. Failed (grouping scope (8 - depth) count) (words_of tokens.now) at e) }
-{
-    if !is(word_at(tokens, at), b"(") {
-        return single_test(scope, tokens, at, count);
-    }
-    if depth == 0 {
-        return Err(Stop::Wrong(at));
-    }
-    let inner = match either(heap, scope, tokens, at + 1, depth - 1, count) {
-        Ok(part) => part,
-        Err(stop) => return Err(stop),
-    };
-    if is(word_at(tokens, inner.next), b")") {
+impl Reader {
+    /// Tests joined by `|`.
+    #[cycle(both_either_plain_single)]
+    pub(crate) fn either(self, place: Place<'_>) -> Result<Part, Stop>
+        ensures { MatchResult result (λ x. TookAt loose self.scope place.entry x) (λ e. FailedAt turning self.scope place.entry e) }
+    {
+        let left = self.both(place)?;
+        let Some(next) = place.joined(&left, b"|") else {
+            return Ok(left);
+        };
+        let right = self.either(next)?;
         Ok(Part {
-            tests: inner.tests,
-            next: inner.next + 1,
-            count: inner.count,
+            tests: either_of(self.heap, left.tests, right.tests)?,
+            next: right.next,
+            count: right.count,
         })
-    } else {
-        Err(Stop::Wrong(inner.next))
+    }
+
+    /// Tests joined by `&`.
+    #[cycle(both_either_plain_single)]
+    fn both(self, place: Place<'_>) -> Result<Part, Stop>
+        ensures { MatchResult result (λ x. TookAt tight self.scope place.entry x) (λ e. FailedAt turning self.scope place.entry e) }
+    {
+        let left = self.single(place)?;
+        let Some(next) = place.joined(&left, b"&") else {
+            return Ok(left);
+        };
+        let right = self.both(next)?;
+        Ok(Part {
+            tests: both_of(self.heap, left.tests, right.tests)?,
+            next: right.next,
+            count: right.count,
+        })
+    }
+
+    /// A test or a group, perhaps turned by `!`.
+    #[cycle(both_either_plain_single)]
+    fn single(self, place: Place<'_>) -> Result<Part, Stop>
+        ensures { MatchResult result (λ x. TookAt one_test self.scope place.entry x) (λ e. FailedAt turning self.scope place.entry e) }
+    {
+        let Some(cursor) = place.cursor.behind(b"!") else {
+            return self.plain(place);
+        };
+        let turned = self.plain(place.to(cursor))?;
+        Ok(Part {
+            tests: not_of(self.heap, turned.tests)?,
+            next: turned.next,
+            count: turned.count,
+        })
+    }
+
+    /// A test, or a group in parentheses.
+    #[cycle(both_either_plain_single)]
+    fn plain(self, place: Place<'_>) -> Result<Part, Stop>
+        ensures { MatchResult result (λ x. TookAt one_group self.scope place.entry x) (λ e. FailedAt grouping self.scope place.entry e) }
+    {
+        let Some(cursor) = place.cursor.behind(b"(") else {
+            return single_test(self.scope, place);
+        };
+        if place.depth == 0 {
+            return Err(Stop::Wrong(place.cursor.at));
+        }
+        let group = self.either(place.inside(cursor))?;
+        let end = cursor.to(group.next).expect(b")")?;
+        Ok(Part {
+            tests: group.tests,
+            next: end.at,
+            count: group.count,
+        })
     }
 }

@@ -4,14 +4,16 @@ ghost use Rattle.ftpl.specs.declared.properties.VariableKind.{VariableKind as Ki
 ghost use Rattle.book_words.specs.Cuts.{words_of};
 ghost use Rattle.book_text.specs.Words.{quantifier_of};
 ghost use Rattle.book_text.specs.Rules.{scope_of, PropertySays};
-ghost use Rattle.book_text.specs.States.{opening, naming, scoped, name_of_next, Stuck};
+ghost use Rattle.book_text.specs.States.{opening, naming, scoped, name_of_next};
 ghost use Rattle.book_text.specs.Took.{Failed, Bound, TestsTaken, RuleTaken};
 ghost use Rattle.book_text.specs.Wrong.{Stopped};
 
-use crate::joins::either;
+use crate::cursors::Cursor;
+use crate::joins::Reader;
 use crate::parts::Stop;
+use crate::places::Place;
 use crate::scopes::Scope;
-use crate::words::{as_kind, as_opening, as_quantifier, is, word_at};
+use crate::words::{as_kind, as_opening, as_quantifier};
 use book_words::Token;
 use ftpl::properties::{Binder, Property, VariableKind};
 use std::alloc::Global;
@@ -23,35 +25,21 @@ pub(crate) struct Rule {
     pub next: usize,
 }
 
-/// The kind of the rows that a quantifier binds its variable to; or the index of the first wrong word.
-fn bound_kind(tokens: &[Token<'_>], at: usize, name: &[u8]) -> Result<VariableKind, usize>
-    requires { at ≤ length tokens.now }
-    ensures { (o : Option KindOfRows) → name_of_next o ≡ name.now → MatchResult result (λ k. Bound o (words_of tokens.now) at k) (λ e. Stuck (naming o) (words_of tokens.now) at e) }
+/// The kind of the rows that a quantifier binds its variable to.
+fn bound_kind(cursor: Cursor<'_>, name: &[u8]) -> Result<VariableKind, Stop>
+    requires { 0 < length name.now }
+    ensures { (o : Option KindOfRows) → name_of_next o ≡ name.now → MatchResult result (λ k. Bound o (words_of cursor.entry.tokens.now) cursor.entry.at k) (λ e. Failed (naming o) (words_of cursor.entry.tokens.now) cursor.entry.at e) }
 {
-    if !is(word_at(tokens, at), name) {
-        return Err(at);
-    }
-    if !is(word_at(tokens, at + 1), b":") {
-        return Err(at + 1);
-    }
-    match as_kind(word_at(tokens, at + 2)) {
-        Some(kind) => Ok(kind),
-        None => Err(at + 2),
-    }
+    let kind = cursor.expect(name)?.expect(b":")?;
+    as_kind(kind.word()).ok_or(Stop::Wrong(kind.at))
 }
 
 fn scope_of(outer: Binder, inner: Option<Binder>) -> Scope
     ensures { result ≡ scope_of outer inner }
 {
-    match inner {
-        None => Scope {
-            outer: outer.kind,
-            inner: None,
-        },
-        Some(binder) => Scope {
-            outer: outer.kind,
-            inner: Some(binder.kind),
-        },
+    Scope {
+        outer: outer.kind,
+        inner: inner.map(|binder| binder.kind),
     }
 }
 
@@ -60,74 +48,58 @@ fn rule_tests(
     heap: Global,
     outer: Binder,
     inner: Option<Binder>,
-    tokens: &[Token<'_>],
-    at: usize,
+    cursor: Cursor<'_>,
 ) -> Result<Rule, Stop>
-    requires { (at ≤ length tokens.now) × ((inner ≡ None → quantifier_of (slice_index_or (words_of tokens.now) at []) ≡ None)) }
-    ensures { MatchResult result (λ x. TestsTaken outer inner (words_of tokens.now) at x) (λ e. Failed (scoped (scope_of outer inner)) (words_of tokens.now) at e) }
+    requires { inner ≡ None → quantifier_of (slice_index_or (words_of cursor.tokens.now) cursor.at []) ≡ None }
+    ensures { MatchResult result (λ x. TestsTaken outer inner (words_of cursor.entry.tokens.now) cursor.entry.at x) (λ e. Failed (scoped (scope_of outer inner)) (words_of cursor.entry.tokens.now) cursor.entry.at e) }
 {
-    if !is(word_at(tokens, at), b":") {
-        return Err(Stop::Wrong(at));
-    }
-    let part = match either(heap, scope_of(outer, inner), tokens, at + 1, 8, 0) {
-        Ok(part) => part,
-        Err(stop) => return Err(stop),
-    };
-    if !is(word_at(tokens, part.next), b"\n") {
-        return Err(Stop::Wrong(part.next));
-    }
+    let scope = scope_of(outer, inner);
+    let tests = cursor.expect(b":")?;
+    let part = Reader { heap, scope }.either(Place {
+        cursor: tests,
+        depth: 8,
+        count: 0,
+    })?;
+    let end = cursor.to(part.next).expect(b"\n")?;
     Ok(Rule {
         property: Property {
             outer,
             inner,
             tests: part.tests,
         },
-        next: part.next + 1,
+        next: end.at,
     })
 }
 
 /// Reads a property's rule up to the end of the line.
-pub(crate) fn read_rule(heap: Global, tokens: &[Token<'_>], at: usize) -> Result<Rule, Stop>
-    requires { at ≤ length tokens.now }
-    ensures { MatchResult result (λ x. RuleTaken (words_of tokens.now) at x) (λ e. Failed opening (words_of tokens.now) at e) }
+pub(crate) fn read_rule(heap: Global, cursor: Cursor<'_>) -> Result<Rule, Stop>
+    ensures { MatchResult result (λ x. RuleTaken (words_of cursor.entry.tokens.now) cursor.entry.at x) (λ e. Failed opening (words_of cursor.entry.tokens.now) cursor.entry.at e) }
 {
-    let Some(quantifier) = as_opening(word_at(tokens, at)) else {
-        return Err(Stop::Wrong(at));
+    let at = cursor.at;
+    let quantifier = as_opening(cursor.word()).ok_or(Stop::Wrong(at))?;
+    let kind = bound_kind(cursor.to(at + 1), b"v")?;
+    let outer = Binder { quantifier, kind };
+    let behind = cursor.to(at + 4);
+    let Some(quantifier) = as_quantifier(behind.word()) else {
+        return rule_tests(heap, outer, None, behind);
     };
-    let outer = match bound_kind(tokens, at + 1, b"v") {
-        Ok(kind) => Binder { quantifier, kind },
-        Err(wrong) => return Err(Stop::Wrong(wrong)),
-    };
-    let Some(second) = as_quantifier(word_at(tokens, at + 4)) else {
-        return rule_tests(heap, outer, None, tokens, at + 4);
-    };
-    match bound_kind(tokens, at + 5, b"w") {
-        Ok(kind) => rule_tests(
-            heap,
-            outer,
-            Some(Binder {
-                quantifier: second,
-                kind,
-            }),
-            tokens,
-            at + 8,
-        ),
-        Err(wrong) => Err(Stop::Wrong(wrong)),
-    }
+    let kind = bound_kind(cursor.to(at + 5), b"w")?;
+    let inner = Binder { quantifier, kind };
+    rule_tests(heap, outer, Some(inner), cursor.to(at + 8))
 }
 
 /// The property whose rule the words are, the end of the line among them; or where they stop being one.
 pub fn read_property(heap: Global, words: &[Token<'_>]) -> Result<Property, Stop>
     ensures { MatchResult result (λ x. PropertySays x (words_of words.now)) (λ e. Stopped (words_of words.now) e) }
 {
-    match read_rule(heap, words, 0) {
-        Ok(rule) => {
-            if rule.next == words.len() {
-                Ok(rule.property)
-            } else {
-                Err(Stop::Wrong(rule.next))
-            }
-        }
-        Err(stop) => Err(stop),
+    let start = Cursor {
+        tokens: words,
+        at: 0,
+    };
+    let rule = read_rule(heap, start)?;
+    if rule.next == words.len() {
+        Ok(rule.property)
+    } else {
+        Err(Stop::Wrong(rule.next))
     }
 }

@@ -1,33 +1,15 @@
 // The variables of a rule, and the kinds of the rows that they run over.
 ghost use Rattle.std.specs.Prelude.{◌≡◌};
-ghost use Rattle.ftpl.specs.Properties.{kind_number};
-ghost use Rattle.book_text.specs.States.{is_kind, kind_in, variable_of, has_kind, viable, first_fits};
+ghost use Rattle.book_text.specs.States.{kind_in, variable_of, has_kind, viable, first_fits};
 
-use crate::words::{Keyword, is};
+use crate::words::Keyword;
 use ftpl::properties::{Variable, VariableKind};
 
 /// The kinds of the rows that v runs over and, if there are two quantifiers, w.
-#[derive(Clone, Copy)]
+#[derive(Clone, Copy, PartialEq, Eq, Debug)]
 pub(crate) struct Scope {
     pub outer: VariableKind,
     pub inner: Option<VariableKind>,
-}
-
-fn kind_number(kind: VariableKind) -> u8
-    ensures { result ≡ kind_number kind }
-{
-    match kind {
-        VariableKind::Component => 1,
-        VariableKind::Provided => 2,
-        VariableKind::Required => 3,
-        VariableKind::Parameter => 4,
-    }
-}
-
-pub(crate) fn same_kind(left: VariableKind, right: VariableKind) -> bool
-    ensures { result ≡ is_kind left right }
-{
-    kind_number(left) == kind_number(right)
 }
 
 /// The kind of the rows that a bound variable runs over.
@@ -36,10 +18,7 @@ pub(crate) fn kind_in(scope: Scope, variable: Variable) -> VariableKind
 {
     match variable {
         Variable::Outer => scope.outer,
-        Variable::Inner => match scope.inner {
-            None => scope.outer,
-            Some(kind) => kind,
-        },
+        Variable::Inner => scope.inner.unwrap_or(scope.outer),
     }
 }
 
@@ -47,23 +26,10 @@ pub(crate) fn kind_in(scope: Scope, variable: Variable) -> VariableKind
 pub(crate) fn as_variable(scope: Scope, word: &[u8]) -> Option<Variable>
     ensures { result ≡ variable_of scope word.now }
 {
-    match scope.inner {
-        None => {
-            if is(word, b"v") {
-                Some(Variable::Outer)
-            } else {
-                None
-            }
-        }
-        Some(_) => {
-            if is(word, b"v") {
-                Some(Variable::Outer)
-            } else if is(word, b"w") {
-                Some(Variable::Inner)
-            } else {
-                None
-            }
-        }
+    match word {
+        b"v" => Some(Variable::Outer),
+        b"w" if scope.inner.is_some() => Some(Variable::Inner),
+        _ => None,
     }
 }
 
@@ -71,13 +37,7 @@ pub(crate) fn as_variable(scope: Scope, word: &[u8]) -> Option<Variable>
 fn has_kind(scope: Scope, kind: VariableKind) -> bool
     ensures { result ≡ has_kind scope kind }
 {
-    if same_kind(scope.outer, kind) {
-        return true;
-    }
-    match scope.inner {
-        None => false,
-        Some(inner) => same_kind(inner, kind),
-    }
+    scope.outer == kind || scope.inner == Some(kind)
 }
 
 /// Whether a test that begins so can be completed.
@@ -85,17 +45,10 @@ pub(crate) fn is_viable(scope: Scope, keyword: Keyword) -> bool
     ensures { result ≡ viable scope keyword }
 {
     match keyword {
-        Keyword::Name => true,
-        Keyword::In => true,
+        Keyword::Name | Keyword::In | Keyword::Child | Keyword::Same => true,
         Keyword::Bound => {
-            if has_kind(scope, VariableKind::Provided) {
-                has_kind(scope, VariableKind::Required)
-            } else {
-                false
-            }
+            has_kind(scope, VariableKind::Provided) && has_kind(scope, VariableKind::Required)
         }
-        Keyword::Child => true,
-        Keyword::Same => true,
         Keyword::Up => has_kind(scope, VariableKind::Component),
         Keyword::AtMost => has_kind(scope, VariableKind::Parameter),
     }
@@ -106,12 +59,9 @@ pub(crate) fn first_fits(keyword: Keyword, kind: VariableKind) -> bool
     ensures { result ≡ first_fits keyword kind }
 {
     match keyword {
-        Keyword::Name => true,
-        Keyword::In => true,
-        Keyword::Bound => same_kind(kind, VariableKind::Provided),
-        Keyword::Child => true,
-        Keyword::Same => true,
-        Keyword::Up => same_kind(kind, VariableKind::Component),
-        Keyword::AtMost => same_kind(kind, VariableKind::Parameter),
+        Keyword::Name | Keyword::In | Keyword::Child | Keyword::Same => true,
+        Keyword::Bound => kind == VariableKind::Provided,
+        Keyword::Up => kind == VariableKind::Component,
+        Keyword::AtMost => kind == VariableKind::Parameter,
     }
 }

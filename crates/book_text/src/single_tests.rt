@@ -1,49 +1,43 @@
 // One test.
-ghost use Rattle.std.specs.Prelude.{ℕ, ◌<◌, ◌≤◌, length, MatchResult};
-ghost use Rattle.book_words.specs.Cuts.{words_of};
+ghost use Rattle.std.specs.Prelude.{MatchResult};
 ghost use Rattle.book_text.specs.Rules.{plain};
 ghost use Rattle.book_text.specs.States.{testing};
-ghost use Rattle.book_text.specs.Took.{Took, Failed};
+ghost use Rattle.book_text.specs.Places.{TookAt, FailedAt};
 
 use crate::operands::{first_operand, second_operand};
 use crate::parts::{Part, Stop};
+use crate::places::Place;
 use crate::scopes::{Scope, is_viable};
 use crate::words::{Keyword, as_keyword, word_at};
-use book_words::Token;
 use ftpl::properties::{Test, Tests};
 
 /// Reads a test.
-pub(crate) fn single_test(
-    scope: Scope,
-    tokens: &[Token<'_>],
-    at: usize,
-    count: u8,
-) -> Result<Part, Stop>
-    requires { (at ≤ length tokens.now) × (count < 16) }
-    ensures { (d n : ℕ) → MatchResult result (λ x. Took plain scope n count (words_of tokens.now) at x) (λ e. Failed (testing scope d count) (words_of tokens.now) at e) }
+pub(crate) fn single_test(scope: Scope, place: Place<'_>) -> Result<Part, Stop>
+    ensures { MatchResult result (λ x. TookAt plain scope place.entry x) (λ e. FailedAt testing scope place.entry e) }
 {
-    let Some(keyword) = as_keyword(word_at(tokens, at)) else {
-        return Err(Stop::Wrong(at));
-    };
+    let tokens = place.cursor.tokens;
+    let at = place.cursor.at;
+    let keyword = as_keyword(word_at(tokens, at)).ok_or(Stop::Wrong(at))?;
     if !is_viable(scope, keyword) {
         return Err(Stop::Wrong(at));
     }
-    let Some(subject) = first_operand(scope, keyword, word_at(tokens, at + 1)) else {
-        return Err(Stop::Wrong(at + 1));
-    };
+    let first = word_at(tokens, at + 1);
+    let subject = first_operand(scope, keyword, first).ok_or(Stop::Wrong(at + 1))?;
+    let count = place.count + 1;
     match keyword {
         Keyword::Up => Ok(Part {
             tests: Tests::Single(Test::Up { subject }),
             next: at + 2,
-            count: count + 1,
+            count,
         }),
-        _ => match second_operand(scope, keyword, subject, word_at(tokens, at + 2)) {
-            Some(test) => Ok(Part {
+        _ => {
+            let second = word_at(tokens, at + 2);
+            let test = second_operand(scope, keyword, subject, second).ok_or(Stop::Wrong(at + 2))?;
+            Ok(Part {
                 tests: Tests::Single(test),
                 next: at + 3,
-                count: count + 1,
-            }),
-            None => Err(Stop::Wrong(at + 2)),
-        },
+                count,
+            })
+        }
     }
 }

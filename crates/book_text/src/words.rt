@@ -8,7 +8,7 @@ use book_words::Token;
 use ftpl::properties::{Quantifier, VariableKind};
 
 /// The word that a test begins with.
-#[derive(Clone, Copy)]
+#[derive(Clone, Copy, PartialEq, Eq, Debug)]
 pub(crate) enum Keyword {
     Name,
     In,
@@ -30,23 +30,17 @@ pub fn is(word: &[u8], text: &[u8]) -> bool
 pub fn word_at<'a>(tokens: &[Token<'a>], i: usize) -> &'a [u8]
     ensures { result.now ≡ slice_index_or (words_of tokens.now) i [] }
 {
-    if i < tokens.len() {
-        tokens[i].word
-    } else {
-        b""
-    }
+    tokens.get(i).map_or(b"", |token| token.word)
 }
 
 /// The quantifier that a word names.
 pub(crate) fn as_quantifier(word: &[u8]) -> Option<Quantifier>
     ensures { result ≡ quantifier_of word.now }
 {
-    if is(word, b"all") {
-        Some(Quantifier::ForAll)
-    } else if is(word, b"some") {
-        Some(Quantifier::Exists)
-    } else {
-        None
+    match word {
+        b"all" => Some(Quantifier::ForAll),
+        b"some" => Some(Quantifier::Exists),
+        _ => None,
     }
 }
 
@@ -54,29 +48,19 @@ pub(crate) fn as_quantifier(word: &[u8]) -> Option<Quantifier>
 pub(crate) fn as_opening(word: &[u8]) -> Option<Quantifier>
     ensures { result ≡ opening_of word.now }
 {
-    if is(word, b"rule=all") {
-        Some(Quantifier::ForAll)
-    } else if is(word, b"rule=some") {
-        Some(Quantifier::Exists)
-    } else {
-        None
-    }
+    as_quantifier(word.strip_prefix(b"rule=")?)
 }
 
 /// The kind that a word names.
 pub(crate) fn as_kind(word: &[u8]) -> Option<VariableKind>
     ensures { result ≡ kind_of word.now }
 {
-    if is(word, b"comp") {
-        Some(VariableKind::Component)
-    } else if is(word, b"prov") {
-        Some(VariableKind::Provided)
-    } else if is(word, b"req") {
-        Some(VariableKind::Required)
-    } else if is(word, b"par") {
-        Some(VariableKind::Parameter)
-    } else {
-        None
+    match word {
+        b"comp" => Some(VariableKind::Component),
+        b"prov" => Some(VariableKind::Provided),
+        b"req" => Some(VariableKind::Required),
+        b"par" => Some(VariableKind::Parameter),
+        _ => None,
     }
 }
 
@@ -84,21 +68,14 @@ pub(crate) fn as_kind(word: &[u8]) -> Option<VariableKind>
 pub(crate) fn as_keyword(word: &[u8]) -> Option<Keyword>
     ensures { result ≡ keyword_of word.now }
 {
-    if is(word, b"name") {
-        Some(Keyword::Name)
-    } else if is(word, b"in") {
-        Some(Keyword::In)
-    } else if is(word, b"bound") {
-        Some(Keyword::Bound)
-    } else if is(word, b"child") {
-        Some(Keyword::Child)
-    } else if is(word, b"same") {
-        Some(Keyword::Same)
-    } else if is(word, b"up") {
-        Some(Keyword::Up)
-    } else if is(word, b"atmost") {
-        Some(Keyword::AtMost)
-    } else {
-        None
+    match word {
+        b"name" => Some(Keyword::Name),
+        b"in" => Some(Keyword::In),
+        b"bound" => Some(Keyword::Bound),
+        b"child" => Some(Keyword::Child),
+        b"same" => Some(Keyword::Same),
+        b"up" => Some(Keyword::Up),
+        b"atmost" => Some(Keyword::AtMost),
+        _ => None,
     }
 }

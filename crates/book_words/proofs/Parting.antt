@@ -7,7 +7,7 @@ use Rattle.std.specs.List.{AllWithin}
 use Rattle.book_words.specs.declared.bytes.ByteKind.TheVariants.{Plain}
 use Rattle.book_words.specs.declared.bytes.Class.{Class}
 use Rattle.book_words.specs.declared.bytes.Class.TheVariants.{Line, Sign, Word}
-use Rattle.book_words.specs.Bytes.{kind_of, is_sign}
+use Rattle.book_words.specs.Bytes.{kind_of}
 use Rattle.book_words.specs.Layout.{Gap}
 use Rattle.book_words.specs.Cuts.{part, Ended, Begins, EndsAt, Skips, Blanked, gap_fits}
 
@@ -31,21 +31,15 @@ part_none s a = let n : a - a ≡ 0 = omega arith in ap (λ i. take i (drop a s)
 pub part_one : {A : Type 0} (d : A) (s : List A) (a : ℕ) → a < length s → part s a (a + 1) ≡ get_or s a d ∷ []
 part_one d s a h = part_first d s a (a + 1) (omega arith) (omega arith) ∙ ap (λ z. get_or s a d ∷ z) (part_none s (a + 1))
 
-pub length_part : (s : List ℕ) (a e : ℕ) → e ≤ length s → length (part s a e) ≡ e - a
+pub length_part : {A : Type 0} (s : List A) (a e : ℕ) → e ≤ length s → length (part s a e) ≡ e - a
 length_part s a e h = length-take-le (e - a) (drop a s) (omega (arith, length-drop a s))
 
-pub get_d_part : (s : List ℕ) (a e k : ℕ) → k < e - a → get_or (part s a e) k 0 ≡ get_or s (a + k) 0
-get_d_part s a e k h = get_or-take (e - a) (drop a s) k 0 h ∙ get_or-drop a s k 0
+pub get_d_part : {A : Type 0} (s : List A) (a e k : ℕ) (d : A) → k < e - a → get_or (part s a e) k d ≡ get_or s (a + k) d
+get_d_part s a e k d h = get_or-take (e - a) (drop a s) k d h ∙ get_or-drop a s k d
 
 -- bytes that are plain in what is left of a text from a on are plain in the text
 pub plain_ahead : (s : List ℕ) (a n : ℕ) → n ≤ length s - a → AllWithin (λ b. kind_of b ≡ Plain) (part s a (length s)) 0 n → (k : ℕ) → a ≤ k → k < a + n → kind_of (get_or s k 0) ≡ Plain
-plain_ahead s a n m h k l g = subst (λ b. kind_of b ≡ Plain) (get_d_part s a (length s) (k - a) (omega arith) ∙ ap (λ i. get_or s i 0) (omega arith)) (h (k - a) 0 (omega arith) (omega arith))
-
-pub ends_line : (s : List ℕ) (a : ℕ) → a < length s → get_or s a 0 ≡ 10 → EndsAt Line s a (a + 1)
-ends_line s a h b = record { ahead = omega arith; inside = omega arith; proper = part_one 0 s a h ∙ ap (λ z. z ∷ []) b; ended = tt }
-
-pub ends_sign : (s : List ℕ) (a : ℕ) → a < length s → is_sign (get_or s a 0) ≡ true → EndsAt Sign s a (a + 1)
-ends_sign s a h b = record { ahead = omega arith; inside = omega arith; proper = (get_or s a 0, b, part_one 0 s a h); ended = tt }
+plain_ahead s a n m h k l g = subst (λ b. kind_of b ≡ Plain) (get_d_part s a (length s) (k - a) 0 (omega arith) ∙ ap (λ i. get_or s i 0) (omega arith)) (h (k - a) 0 (omega arith) (omega arith))
 
 pub ends_word : (s : List ℕ) (a e : ℕ) → a < length s → kind_of (get_or s a 0) ≡ Plain → a ≤ e → e ≤ length s → ((k : ℕ) → a ≤ k → k < e → kind_of (get_or s k 0) ≡ Plain) → (e < length s → kind_of (get_or s e 0) ≡ Plain → ⊥) → EndsAt Word s a e
 ends_word s a e h b l i p q =
@@ -53,7 +47,7 @@ ends_word s a e h b l i p q =
     record {
       ahead = m;
       inside = i;
-      proper = (λ z. omega (arith, ap length z, length_part s a e i), All-from_get_or (λ b. kind_of b ≡ Plain) (part s a e) 0 (λ k g. let n = length_part s a e i in subst (λ y. kind_of y ≡ Plain) (sym (get_d_part s a e k (omega arith))) (p (a + k) (omega arith) (omega arith))));
+      proper = (λ z. omega (arith, ap length z, length_part s a e i), All-from_get_or (λ b. kind_of b ≡ Plain) (part s a e) 0 (λ k g. let n = length_part s a e i in subst (λ y. kind_of y ≡ Plain) (sym (get_d_part s a e k 0 (omega arith))) (p (a + k) (omega arith) (omega arith))));
       ended = q;
     }
 

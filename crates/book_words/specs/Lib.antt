@@ -3,3 +3,4 @@ pub mod Layout
 pub mod Cuts
 pub mod Cutting
 pub mod Wrong
+pub mod Among

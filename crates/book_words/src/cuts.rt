@@ -26,7 +26,6 @@ fn word_end(text: &[u8], at: usize) -> usize
 
 /// Behind the one blank that may stand at `at`, where the token before it is of this class.
 fn skip_blank(text: &[u8], at: usize, class: Class) -> usize
-    requires { at ≤ length text.now }
     ensures { Skips text.now at class result }
 {
     match class {
@@ -37,7 +36,6 @@ fn skip_blank(text: &[u8], at: usize, class: Class) -> usize
 
 /// Behind a blank, if one stands at `at`.
 fn blank_end(text: &[u8], at: usize) -> usize
-    requires { at ≤ length text.now }
     ensures { Blanked text.now at result }
 {
     if text.get(at) == Some(&b' ') {

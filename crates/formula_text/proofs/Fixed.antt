@@ -1,19 +1,13 @@
 -- The fixed words that stand for an event or begin a leaf are words.
-use Rattle.std.proofs.Common.{◌≡◌, ℕ, ◌∷◌, List, refl, arith}
-use Rattle.std.specs.List.{AllByRecursion}
-use Rattle.book_words.specs.declared.bytes.ByteKind.TheVariants.{Plain}
+use Rattle.std.proofs.Common.{refl}
 use Rattle.book_words.specs.declared.bytes.Class.TheVariants.{Word}
-use Rattle.book_words.specs.Bytes.{kind_of}
 use Rattle.book_words.specs.Layout.{Proper}
+use Rattle.book_words.proofs.Lining.{word_proper}
 use Rattle.formula_text.specs.declared.events.EventWord.{EventWord}
 use Rattle.formula_text.specs.declared.events.EventWord.TheVariants.{Called, Normal, Exceptional, Terminates}
 use Rattle.formula_text.specs.declared.leaves.LeafWord.{LeafWord}
 use Rattle.formula_text.specs.declared.leaves.LeafWord.TheVariants as says
 use Rattle.formula_text.specs.Words.{event_text, leaf_text}
-
--- bytes of which each is plain, by a test that computes
-pub word_proper : (b : ℕ) (t : List ℕ) → AllByRecursion (λ b. kind_of b ≡ Plain) (b ∷ t) → Proper Word (b ∷ t)
-word_proper b t h = ((λ e. let z : ◌≡◌ {A = ℕ} 0 1 = cc in omega arith), h)
 
 pub event_proper : (w : EventWord) → Proper Word (event_text w)
 event_proper Called = word_proper _ _ (refl, (refl, (refl, (refl, (refl, (refl, tt))))))

@@ -1,15 +1,14 @@
 -- Leaves and groups joined by signs, or the word at which they stopped.
 use Rattle.std.proofs.Common.{◌≡◌, ℕ, ◌+◌, ◌-◌, ◌<◌, ◌≤◌, Bool, true, false, cond, ◌&&◌, eqb, ltb, List, [], ◌∷◌, ◌++◌, length, get_or, codes, sym, refl, ap, ◌∙◌, subst, true≢false, append_assoc, append-nil, arith, length-append}
 use Rattle.std.specs.Str.{bytes_eq}
-use Rattle.std.proofs.lemmas.Bool.{cond-false, and_parts, ltb-true, ne_eqb}
+use Rattle.std.proofs.lemmas.Bool.{cond-false, ne_eqb}
 use Rattle.ftpl.specs.declared.formulas.Leaf.{Leaf}
 use Rattle.ftpl.specs.declared.formulas.Trace.{Trace}
 use Rattle.book_text.specs.declared.parts.Stop.{Stop}
 use Rattle.book_text.specs.declared.parts.Stop.TheVariants.{Wrong, Memory}
 use Rattle.book_text.specs.Rules.{Text, Level, loose, tight, plain}
 use Rattle.book_words.specs.Cuts.{part as mid}
-use Rattle.book_text.proofs.Lexical.{same_true}
-use Rattle.book_text.proofs.Steps.{mid_first, mid_one, mid_sign, stands, begun}
+use Rattle.book_text.proofs.Steps.{mid_first, mid_one, mid_sign, begun}
 use Rattle.book_words.proofs.Parting.{part_join as mid_join}
 use Rattle.formula_text.specs.declared.places.Place.{Place}
 use Rattle.formula_text.specs.declared.places.Part.{Part}
@@ -68,21 +67,11 @@ shut_alone : (g : Sign) (s : List Text) (e k : ℕ) → Shut (part g) s e k → 
 shut_alone ands s e k h u = u
 shut_alone ors s e k h u = (h, u)
 
-sign_some : (g : Sign) → sign_text g ≡ [] → ⊥
-sign_some ands e = let z : ◌≡◌ {A = ℕ} 0 1 = cc in omega arith
-sign_some ors e = let z : ◌≡◌ {A = ℕ} 0 1 = cc in omega arith
-
 -- the sign stands at e, and a leaf may follow
 pub record Joins (s : List Text) (e k : ℕ) (t : Text) : Type 0 where
   pub room : k < 4
   pub sign : get_or s e [] ≡ t
   pub inside : e < length s
-
-pub joins_by : (g : Sign) (s : List Text) (e k : ℕ) → (ltb k 4 && bytes_eq (get_or s e []) (sign_text g)) ≡ true → Joins s e k (sign_text g)
-joins_by g s e k h =
-    let p = and_parts (ltb k 4) (bytes_eq (get_or s e []) (sign_text g)) h in
-    let q = same_true (get_or s e []) (sign_text g) p.1 in
-    record { room = ltb-true k 4 p.0; sign = q; inside = stands s e (sign_text g) (sign_some g) q }
 
 pub mid_more : (s : List Text) (a b : ℕ) (t : Text) → a ≤ b → b < length s → get_or s b [] ≡ t → mid s a (b + 1) ≡ mid s a b ++ (t ∷ [])
 mid_more s a b t h l q = mid_join s a b (b + 1) h (omega arith) ∙ ap (λ z. mid s a b ++ z) (mid_one s b l ∙ ap (λ z. z ∷ []) q)

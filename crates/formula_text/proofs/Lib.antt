@@ -2,6 +2,7 @@ pub mod Steps
 pub mod Listed
 pub mod Traced
 pub mod Grouped
+pub mod Moves
 pub mod Lined
 pub mod Afters
 pub mod Opened

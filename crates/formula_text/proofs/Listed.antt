@@ -119,9 +119,6 @@ module _ (n : ℕ) (st : State) (e : EventList) (s : List Text) (a : ℕ) where
           }
 
       module _ (g : get_or s (a + 2) [] ≡ codes ",") where
-        pub comma_inside : a + 2 < length s
-        comma_inside = begun s (a + 2) 44 [] g
-
         three_words : mid s a (a + 3) ≡ decimal k ∷ event_text w ∷ codes "," ∷ []
         three_words = sign (codes ",") (λ z. let y : ◌≡◌ {A = ℕ} 0 1 = cc in omega arith) g
 

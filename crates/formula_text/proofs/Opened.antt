@@ -148,13 +148,6 @@ here n m (first {t} {p} h k) e = wrong_from n ((codes "rule=" ++ t) ∷ p) 0 m (
 here n m second e = absurd (subst Running e tt)
 
 module _ (n : ℕ) (s : List Text) (a : ℕ) (m : 1 ≤ n) (f : Front s a) where
-  pub front_inside : a ≤ length s
-  front_inside = inside f
-    where
-      inside : {s : List Text} {a : ℕ} → Front s a → a ≤ length s
-      inside (first h k) = omega arith
-      inside second = omega arith
-
   pub front_failed : (r : Stop) → Failed n (Lines n 0) (ready 0) (unfronted s) a r → Stopped n s r
   front_failed (Wrong e) x =
       ⊎_elim

@@ -1,17 +1,16 @@
 // Events and lists of them.
-ghost use Rattle.std.specs.Prelude.{◌≡◌, ℕ, ◌≤◌, length, MatchResult};
+ghost use Rattle.std.specs.Prelude.{◌≡◌, ℕ, ◌≤◌, MatchResult};
 ghost use Rattle.formula_text.specs.Words.{event_of, rule_words};
 ghost use Rattle.formula_text.specs.Rules.{with_bit, with_event};
-ghost use Rattle.formula_text.specs.States.{State, Stuck, operation as operation_next, bracket};
-ghost use Rattle.formula_text.specs.Took.{Lists, EventsTook, IsList, ListTook};
+ghost use Rattle.formula_text.specs.States.{State, operation as operation_next, bracket};
+ghost use Rattle.formula_text.specs.Took.{Lists, EventsTook, IsList, ListTook, Failed};
 
-use crate::words::rule_word;
-use book_text::{is, natural_between};
-use book_words::Token;
+use crate::words::{expect, rule_word};
+use book_text::{Cursor, Stop, is, natural_between};
 use ftpl::formulas::EventList;
 
 /// What is said of an operation in a list of events.
-#[derive(Clone, Copy)]
+#[derive(Clone, Copy, PartialEq, Eq, Debug)]
 pub(crate) enum EventWord {
     Called,
     Normal,
@@ -21,7 +20,7 @@ pub(crate) enum EventWord {
 }
 
 /// Events that were read, and the index behind them.
-#[derive(Clone, Copy)]
+#[derive(Clone, Copy, PartialEq, Eq, Debug)]
 pub(crate) struct Events {
     pub list: EventList,
     pub next: usize,
@@ -31,16 +30,12 @@ pub(crate) struct Events {
 fn as_event(word: &[u8]) -> Option<EventWord>
     ensures { result ≡ event_of word.now }
 {
-    if is(word, b"called") {
-        Some(EventWord::Called)
-    } else if is(word, b"normal") {
-        Some(EventWord::Normal)
-    } else if is(word, b"exceptional") {
-        Some(EventWord::Exceptional)
-    } else if is(word, b"terminates") {
-        Some(EventWord::Terminates)
-    } else {
-        None
+    match word {
+        b"called" => Some(EventWord::Called),
+        b"normal" => Some(EventWord::Normal),
+        b"exceptional" => Some(EventWord::Exceptional),
+        b"terminates" => Some(EventWord::Terminates),
+        _ => None,
     }
 }
 
@@ -70,20 +65,17 @@ fn with_event(list: EventList, operation: u8, word: EventWord) -> EventList
     more
 }
 
-/// Reads the events from an index on up to the closing bracket, which follow those of the list; or where they stop.
-fn rest_of_list(list: EventList, tokens: &[Token<'_>], at: usize) -> Result<Events, usize>
-    requires { at ≤ length tokens.now }
-    ensures { (n : ℕ) (st : State) → MatchResult result (λ x. EventsTook list (rule_words tokens.now) at x) (λ e. Stuck n (Lists list) (operation_next st) (rule_words tokens.now) at e) }
+/// Reads the events up to the closing bracket, which follow those of the list.
+fn rest_of_list(list: EventList, cursor: Cursor<'_>) -> Result<Events, Stop>
+    ensures { (n : ℕ) (st : State) → MatchResult result (λ x. EventsTook list (rule_words cursor.entry.tokens.now) cursor.entry.at x) (λ e. Failed n (Lists list) (operation_next st) (rule_words cursor.entry.tokens.now) cursor.entry.at e) }
 {
-    let Some(operation) = natural_between(rule_word(tokens, at), 1, 63) else {
-        return Err(at);
-    };
-    let Some(word) = as_event(rule_word(tokens, at + 1)) else {
-        return Err(at + 1);
-    };
+    let tokens = cursor.tokens;
+    let at = cursor.at;
+    let operation = natural_between(rule_word(tokens, at), 1, 63).ok_or(Stop::Wrong(at))?;
+    let word = as_event(rule_word(tokens, at + 1)).ok_or(Stop::Wrong(at + 1))?;
     let more = with_event(list, operation, word);
     if is(rule_word(tokens, at + 2), b",") {
-        return rest_of_list(more, tokens, at + 3);
+        return rest_of_list(more, cursor.to(at + 3));
     }
     if is(rule_word(tokens, at + 2), b"]") {
         Ok(Events {
@@ -91,22 +83,18 @@ fn rest_of_list(list: EventList, tokens: &[Token<'_>], at: usize) -> Result<Even
             next: at + 3,
         })
     } else {
-        Err(at + 2)
+        Err(Stop::Wrong(at + 2))
     }
 }
 
-/// Reads a list of events in brackets; or where it stops being one.
-pub(crate) fn event_list(tokens: &[Token<'_>], at: usize) -> Result<Events, usize>
-    requires { at ≤ length tokens.now }
-    ensures { (n : ℕ) (st : State) → MatchResult result (λ x. ListTook (rule_words tokens.now) at x) (λ e. Stuck n IsList (bracket st) (rule_words tokens.now) at e) }
+/// Reads a list of events in brackets.
+pub(crate) fn event_list(cursor: Cursor<'_>) -> Result<Events, Stop>
+    ensures { (n : ℕ) (st : State) → MatchResult result (λ x. ListTook (rule_words cursor.entry.tokens.now) cursor.entry.at x) (λ e. Failed n IsList (bracket st) (rule_words cursor.entry.tokens.now) cursor.entry.at e) }
 {
-    if !is(rule_word(tokens, at), b"[") {
-        return Err(at);
-    }
     let none = EventList {
         called: 0,
         normal: 0,
         exceptional: 0,
     };
-    rest_of_list(none, tokens, at + 1)
+    rest_of_list(none, expect(cursor, b"[")?)
 }

@@ -2,11 +2,10 @@
 ghost use Rattle.std.specs.Prelude.{◌≡◌};
 ghost use Rattle.formula_text.specs.Words.{leaf_word_of, leaf_of};
 
-use book_text::is;
 use ftpl::formulas::Leaf;
 
 /// The word that a leaf begins with.
-#[derive(Clone, Copy)]
+#[derive(Clone, Copy, PartialEq, Eq, Debug)]
 pub(crate) enum LeafWord {
     Always,
     Eventually,
@@ -17,14 +16,11 @@ pub(crate) enum LeafWord {
 pub(crate) fn as_leaf(word: &[u8]) -> Option<LeafWord>
     ensures { result ≡ leaf_word_of word.now }
 {
-    if is(word, b"always") {
-        Some(LeafWord::Always)
-    } else if is(word, b"eventually") {
-        Some(LeafWord::Eventually)
-    } else if is(word, b"never") {
-        Some(LeafWord::Never)
-    } else {
-        None
+    match word {
+        b"always" => Some(LeafWord::Always),
+        b"eventually" => Some(LeafWord::Eventually),
+        b"never" => Some(LeafWord::Never),
+        _ => None,
     }
 }
 

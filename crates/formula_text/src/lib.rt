@@ -5,8 +5,9 @@ mod events;
 mod leaves;
 mod lines;
 mod places;
+mod readers;
 mod rules;
-mod traces;
+mod spots;
 mod words;
 
 pub use rules::read_formula;

@@ -3,11 +3,11 @@ ghost use Rattle.std.specs.Prelude.{◌≡◌, ℕ, ◌≤◌, take, codes, Matc
 ghost use Rattle.std.specs.Str.{bytes_eq};
 ghost use Rattle.book_words.specs.Cuts.{words_of};
 ghost use Rattle.formula_text.specs.Rules.{FormulaSays};
-ghost use Rattle.formula_text.specs.Wrong.{FirstWrong, Stopped, Front};
+ghost use Rattle.formula_text.specs.Wrong.{Stopped, Front};
 
-use crate::lines::read_line;
+use crate::readers::Reader;
 use crate::words::rule_word;
-use book_text::{Stop, is, word_at};
+use book_text::{Cursor, Stop, is, word_at};
 use book_words::Token;
 use ftpl::formulas::Formula;
 use std::alloc::Global;
@@ -16,22 +16,18 @@ use std::alloc::Global;
 fn has_front(word: &[u8]) -> bool
     ensures { result ≡ bytes_eq (take 5 word.now) (codes "rule=") }
 {
-    if word.len() < 5 {
-        is(word, b"rule=")
-    } else {
-        is(&word[0..5], b"rule=")
-    }
+    word.starts_with(b"rule=")
 }
 
 /// The index of the word that the formula begins in: the one with `rule=` in front, or the parenthesis behind `rule=`.
-fn line_start(words: &[Token<'_>]) -> Result<usize, usize>
-    ensures { (n : ℕ) → 1 ≤ n → MatchResult result (λ a. Front (words_of words.now) a) (λ e. FirstWrong n (words_of words.now) e) }
+fn line_start(words: &[Token<'_>]) -> Result<usize, Stop>
+    ensures { (n : ℕ) → 1 ≤ n → MatchResult result (λ a. Front (words_of words.now) a) (λ e. Stopped n (words_of words.now) e) }
 {
     if !has_front(word_at(words, 0)) {
-        return Err(0);
+        return Err(Stop::Wrong(0));
     }
     if is(rule_word(words, 0), b"(") {
-        return Err(0);
+        return Err(Stop::Wrong(0));
     }
     if !is(rule_word(words, 0), b"") {
         return Ok(0);
@@ -39,7 +35,7 @@ fn line_start(words: &[Token<'_>]) -> Result<usize, usize>
     if is(rule_word(words, 1), b"(") {
         Ok(1)
     } else {
-        Err(1)
+        Err(Stop::Wrong(1))
     }
 }
 
@@ -51,14 +47,11 @@ pub fn read_formula(heap: Global, count: u8, words: &[Token<'_>]) -> Result<Form
     if count == 0 {
         return Err(Stop::Wrong(0));
     }
-    let at = match line_start(words) {
-        Ok(at) => at,
-        Err(wrong) => return Err(Stop::Wrong(wrong)),
+    let start = Cursor {
+        tokens: words,
+        at: line_start(words)?,
     };
-    let line = match read_line(heap, count, words, at, 0) {
-        Ok(line) => line,
-        Err(stop) => return Err(stop),
-    };
+    let line = Reader { heap, most: count }.read_line(start, 0)?;
     if line.next == words.len() {
         Ok(line.formula)
     } else {

@@ -8,12 +8,12 @@ use Rattle.book_words.specs.declared.bytes.ByteKind.TheVariants.{Plain}
 use Rattle.book_words.specs.declared.bytes.Class.TheVariants.{Word}
 use Rattle.book_words.specs.Bytes.{kind_of}
 use Rattle.book_words.specs.Layout.{Proper}
-use Rattle.whole_book.proofs.Lining.{Inside, Lined, decimal_inside, word_inside, inside_not}
+use Rattle.book_words.proofs.Lining.{word_proper, Inside, Lined, decimal_inside, word_inside, inside_not}
 use Rattle.book_text.specs.Rules.{Text, Level}
 use Rattle.formula_text.specs.Words.{leaf_text}
 use Rattle.formula_text.specs.Rules.{Listing, a_last, a_more, ListSays, Tree, Reads, a_leaf, a_group, one_tight, and_tight, one_loose, or_loose, CoreOf, just, before, until, CoreSays, AftersSay, LineSays, Fronted, within, apart}
 use Rattle.formula_text.specs.Wrong.{IsRule}
-use Rattle.formula_text.proofs.Fixed.{word_proper, event_proper, leaf_proper}
+use Rattle.formula_text.proofs.Fixed.{event_proper, leaf_proper}
 
 after_proper : Proper Word (codes "after")
 after_proper = word_proper _ _ (refl, (refl, (refl, (refl, (refl, tt)))))

@@ -6,9 +6,9 @@ use Rattle.std.proofs.ByRecursion.{All-append}
 use Rattle.std.proofs.lemmas.Fmt.{decimal_injective}
 use Rattle.book_words.specs.declared.bytes.Class.{Class}
 use Rattle.book_words.specs.Layout.{Proper}
-use Rattle.whole_book.proofs.Lining.{Inside, Lined, keyed_inside, same_line, lined_proper}
+use Rattle.book_words.proofs.Lining.{Inside, Lined, keyed_inside, same_line, lined_proper}
 use Rattle.book_text.specs.Rules.{Text}
-use Rattle.whole_book.proofs.PropertyLines as property
+use Rattle.book_text.proofs.PropertyLines as property
 use Rattle.whole_book.proofs.FormulaLines as formula
 use Rattle.whole_book.specs.declared.entries.Listed.{Listed}
 use Rattle.whole_book.specs.declared.entries.Head.{Head}

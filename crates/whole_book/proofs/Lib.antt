@@ -1,7 +1,3 @@
-pub mod Parts
-pub mod Told
-pub mod Lining
-pub mod PropertyLines
 pub mod FormulaLines
 pub mod Lists
 pub mod Going

@@ -8,10 +8,10 @@ use Rattle.std.proofs.lemmas.Bool.{cases_lt}
 use Rattle.ftpl.specs.declared.books.Book.{Book}
 use Rattle.book_words.specs.declared.tokens.Token.{Token}
 use Rattle.book_words.specs.Cuts.{part, words_of}
-use Rattle.whole_book.specs.Among.{WrongAt}
-use Rattle.whole_book.proofs.Lining.{Lined, one_end, front_clear, end_apart}
+use Rattle.book_words.specs.Among.{WrongAt}
+use Rattle.book_words.proofs.Lining.{Lined, one_end, front_clear, end_apart}
 use Rattle.book_words.proofs.Parting.{part_join, part_first, part_one}
-use Rattle.whole_book.proofs.Parts.{length_part, get_d_part}
+use Rattle.book_words.proofs.Parting.{length_part, get_d_part}
 use Rattle.book_text.specs.Rules.{Text}
 use Rattle.book_text.specs.declared.parts.Stop.{Stop}
 use Rattle.book_text.specs.declared.parts.Stop.TheVariants.{Wrong, Memory}

@@ -10,6 +10,8 @@ use Rattle.table_text.specs.Marks.{ReadAs, WrongIn as WrongInTable}
 use Rattle.table_text.specs.Placed.{Within}
 use Rattle.whole_book.specs.declared.both.TextsError.{TextsError}
 use Rattle.whole_book.specs.declared.both.TextsError.TheVariants as why
+use Rattle.whole_book.specs.declared.books.BookError.{BookError}
+use Rattle.whole_book.specs.declared.books.BookError.TheVariants as book
 use Rattle.whole_book.specs.Texts.{BookText, WrongIn as WrongInBook}
 
 abbrev pub refusal_of : TextsError → Option Refusal
@@ -17,6 +19,11 @@ refusal_of (why.Table w) = Some (TableWord w.line w.byte)
 refusal_of why.Beyond = Some BeyondCapacity
 refusal_of (why.Book w) = Some (BookWord w.line w.byte)
 refusal_of why.Memory = None
+
+-- why two texts are refused where the book text is
+abbrev pub why_of : BookError → TextsError
+why_of (book.Wrong w) = why.Book w
+why_of book.Memory = why.Memory
 
 -- the table text says the table t, whose filled rows all have a place among the first n
 abbrev pub Fits : List ℕ → ℕ → List Row → Type 0

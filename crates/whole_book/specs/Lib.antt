@@ -1,4 +1,3 @@
-pub mod Among
 pub mod Books
 pub mod Lines
 pub mod Took

@@ -2,7 +2,7 @@
 use Rattle.std.specs.Prelude.{◌≡◌, ℕ, ◌+◌, ◌<◌, ◌≤◌, ◌⊎◌, List, [], ◌∷◌, ◌++◌, length, take, vec_items, codes, ◌≢◌, slice_index_or}
 use Rattle.ftpl.specs.declared.books.Book.{Book}
 use Rattle.book_words.specs.Cuts.{part}
-use Rattle.whole_book.specs.Among.{WrongAt}
+use Rattle.book_words.specs.Among.{WrongAt}
 use Rattle.book_text.specs.Rules.{Text}
 use Rattle.book_text.specs.declared.parts.Stop.{Stop}
 use Rattle.book_text.specs.declared.parts.Stop.TheVariants.{Wrong, Memory}

@@ -18,12 +18,10 @@ pub(crate) fn line_end(tokens: &[Token<'_>], at: usize) -> usize
     ensures inside { result ≤ length tokens.now }
     ensures ends { LineEnd (words_of tokens.now) at result }
 {
-    for i in at..tokens.len() {
-        if is(word_at(tokens, i), b"\n") {
-            return i + 1;
-        }
+    match tokens[at..].iter().position(|t| is(t.word, b"\n")) {
+        Some(n) => at + n + 1,
+        None => tokens.len(),
     }
-    tokens.len()
 }
 
 /// A standing condition, whose line has no more words.
@@ -50,14 +48,8 @@ pub(crate) fn read_body(
     ensures { MatchResult result (λ x. BodySays count head x (words_of words.now)) (λ e. BodyStopped count head (words_of words.now) e) }
 {
     match head {
-        Head::Property => match read_property(heap, words) {
-            Ok(property) => Ok(Entry::Property(property)),
-            Err(stop) => Err(stop),
-        },
+        Head::Property => Ok(Entry::Property(read_property(heap, words)?)),
         Head::Condition(number) => condition_body(number, words),
-        Head::Formula => match read_formula(heap, count, words) {
-            Ok(formula) => Ok(Entry::Formula(formula)),
-            Err(stop) => Err(stop),
-        },
+        Head::Formula => Ok(Entry::Formula(read_formula(heap, count, words)?)),
     }
 }

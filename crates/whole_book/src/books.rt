@@ -1,6 +1,7 @@
 // A book as text.
 ghost use Rattle.std.specs.Prelude.{◌≡◌, ◌+◌, ◌≤◌, length, take, drop, MatchResult};
 ghost use Rattle.book_words.specs.Wrong.{TextOf};
+ghost use Rattle.whole_book.specs.declared.books.BookError.TheVariants.{Memory};
 ghost use Rattle.whole_book.specs.Books.{IsBook};
 ghost use Rattle.whole_book.specs.Texts.{BookText, BookRefused, Passes, Located};
 
@@ -8,7 +9,7 @@ use crate::lines::read_lines;
 use book_text::Stop;
 use book_words::{Token, cut, point};
 use ftpl::books::Book;
-use std::alloc::Global;
+use std::alloc::{AllocError, Global};
 use table_text::{WrongWord, wrong_word};
 
 /// Why a book text is not read.
@@ -18,6 +19,14 @@ pub enum BookError<'a> {
     Wrong(WrongWord<'a>),
     /// too little memory for the book
     Memory,
+}
+
+impl From<AllocError> for BookError<'_> {
+    ghost from_gives = { λ _ e. e ≡ Memory };
+
+    fn from(_error: AllocError) -> Self {
+        BookError::Memory
+    }
 }
 
 /// A word of a text with its line and byte.
@@ -32,22 +41,14 @@ pub fn read_book<'a>(heap: Global, text: &'a [u8]) -> Result<Book, BookError<'a>
     ensures answer { MatchResult result (λ x. BookText text.now x) (λ e. BookRefused text.now e) }
     ensures passes { TextOf IsBook text.now → Passes result }
 {
-    let words = match cut(heap, text) {
-        Ok(words) => words,
-        Err(_) => return Err(BookError::Memory),
-    };
+    let words = cut(heap, text)?;
     match read_lines(heap, words.tokens.as_slice()) {
-        Ok(book) => {
-            if words.end == text.len() {
-                Ok(book)
-            } else {
-                let token = point(text, &words, words.tokens.len());
-                Err(BookError::Wrong(located(text, token)))
-            }
+        Ok(book) if words.end == text.len() => Ok(book),
+        Ok(_) => {
+            let token = point(text, &words, words.tokens.len());
+            Err(BookError::Wrong(located(text, token)))
         }
-        Err(stop) => match stop {
-            Stop::Wrong(n) => Err(BookError::Wrong(located(text, point(text, &words, n)))),
-            Stop::Memory => Err(BookError::Memory),
-        },
+        Err(Stop::Wrong(n)) => Err(BookError::Wrong(located(text, point(text, &words, n)))),
+        Err(Stop::Memory) => Err(BookError::Memory),
     }
 }

@@ -1,6 +1,6 @@
 // A table and a book read together.
 ghost use Rattle.std.specs.Prelude.{◌≡◌};
-ghost use Rattle.whole_book.specs.Both.{TextsRead, refusal_of};
+ghost use Rattle.whole_book.specs.Both.{TextsRead, refusal_of, why_of};
 
 use crate::books::{BookError, read_book};
 use ftpl::books::Book;
@@ -41,6 +41,17 @@ impl TextsError<'_> {
     }
 }
 
+impl<'a> From<BookError<'a>> for TextsError<'a> {
+    ghost from_gives = { λ e t. t ≡ why_of e };
+
+    fn from(error: BookError<'a>) -> Self {
+        match error {
+            BookError::Wrong(wrong) => TextsError::Book(wrong),
+            BookError::Memory => TextsError::Memory,
+        }
+    }
+}
+
 /// Reads a table text into a host, and a book text. A wrong word is a part of whichever of the two texts has it.
 /// Whatever is refused, the host is as it was.
 pub fn read_texts<'a, H: Host>(
@@ -51,21 +62,12 @@ pub fn read_texts<'a, H: Host>(
 ) -> Result<Book, TextsError<'a>>
     ensures { TextsRead H.Host.rows H.Host.held table.now book.now host.old result host.new }
 {
-    let rows = match read_table(table) {
-        Ok(rows) => rows,
-        Err(wrong) => return Err(TextsError::Table(wrong)),
-    };
+    let rows = read_table(table).map_err(TextsError::Table)?;
     if !is_within(&rows, host.capacity()) {
         return Err(TextsError::Beyond);
     }
-    let read = match read_book(heap, book) {
-        Ok(read) => read,
-        Err(BookError::Wrong(wrong)) => return Err(TextsError::Book(wrong)),
-        Err(BookError::Memory) => return Err(TextsError::Memory),
-    };
-    match put_table(&rows, host) {
-        Ok(()) => Ok(read),
-        // every filled row was found to have a place in the host
-        Err(_) => unreachable(),
-    }
+    let read = read_book(heap, book)?;
+    // the rows fit, so this refuses nothing; it could for no other reason
+    put_table(&rows, host).map_err(|_| TextsError::Beyond)?;
+    Ok(read)
 }

@@ -3,7 +3,8 @@ use ftpl::formulas::Formula;
 use ftpl::properties::Property;
 
 /// How many properties, standing conditions and formulas are listed, and the property of the last condition, 0 without one.
-#[derive(Clone, Copy)]
+// Stays: 0 lies below every number of a property, so the next condition is tested against one bound and not by two cases.
+#[derive(Clone, Copy, PartialEq, Eq, Debug)]
 pub(crate) struct Listed {
     pub properties: u8,
     pub conditions: u8,
@@ -12,7 +13,7 @@ pub(crate) struct Listed {
 }
 
 /// What the first word of a line announces.
-#[derive(Clone, Copy)]
+#[derive(Clone, Copy, PartialEq, Eq, Debug)]
 pub(crate) enum Head {
     /// the next property
     Property,

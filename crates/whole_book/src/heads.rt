@@ -11,43 +11,31 @@ use table_text::natural_between;
 fn keyed_number(word: &[u8], key: &[u8], least: u8, most: u8) -> Option<u8>
     ensures { MatchOption result ((n : ℕ) → least ≤ n → n ≤ most → word.now ≢ key.now ++ decimal n) (λ n. (least ≤ n) × (n ≤ most) × (word.now ≡ key.now ++ decimal n)) }
 {
-    match word.strip_prefix(key) {
-        Some(digits) => natural_between(digits, least, most),
-        None => None,
-    }
+    natural_between(word.strip_prefix(key)?, least, most)
+}
+
+/// Whether the word is the key and this number.
+fn is_numbered(word: &[u8], key: &[u8], number: u8) -> bool
+    ensures { Decides result (word.now ≡ key.now ++ decimal number) }
+{
+    keyed_number(word, key, number, number).is_some()
 }
 
 /// Whether the word announces the next property.
 fn is_property(listed: Listed, word: &[u8]) -> bool
     ensures { Decides result (HeadSays listed Property word.now) }
 {
-    if listed.conditions > 0 {
-        return false;
-    }
-    if listed.formulas > 0 {
-        return false;
-    }
-    if listed.properties >= 64 {
-        return false;
-    }
-    let number = listed.properties + 1;
-    match keyed_number(word, b"prop=", number, number) {
-        Some(_) => true,
-        None => false,
-    }
+    listed.conditions == 0
+        && listed.formulas == 0
+        && listed.properties < 64
+        && is_numbered(word, b"prop=", listed.properties + 1)
 }
 
 /// The property that the word announces as a standing condition.
 fn condition_number(listed: Listed, word: &[u8]) -> Option<u8>
     ensures { MatchOption result ((n : ℕ) → HeadSays listed (Condition n) word.now → ⊥) (λ n. HeadSays listed (Condition n) word.now) }
 {
-    if listed.formulas > 0 {
-        return None;
-    }
-    if listed.conditions >= 16 {
-        return None;
-    }
-    if listed.last >= listed.properties {
+    if listed.formulas > 0 || listed.conditions >= 16 || listed.last >= listed.properties {
         return None;
     }
     keyed_number(word, b"hold=", listed.last + 1, listed.properties)
@@ -57,17 +45,9 @@ fn condition_number(listed: Listed, word: &[u8]) -> Option<u8>
 fn is_formula(listed: Listed, word: &[u8]) -> bool
     ensures { Decides result (HeadSays listed Formula word.now) }
 {
-    if listed.properties == 0 {
-        return false;
-    }
-    if listed.formulas >= 32 {
-        return false;
-    }
-    let number = listed.formulas + 1;
-    match keyed_number(word, b"form=", number, number) {
-        Some(_) => true,
-        None => false,
-    }
+    listed.properties > 0
+        && listed.formulas < 32
+        && is_numbered(word, b"form=", listed.formulas + 1)
 }
 
 /// What the first word of a line announces, given what is listed before.
@@ -80,8 +60,5 @@ pub(crate) fn head_of(listed: Listed, word: &[u8]) -> Option<Head>
     if is_formula(listed, word) {
         return Some(Head::Formula);
     }
-    match condition_number(listed, word) {
-        Some(number) => Some(Head::Condition(number)),
-        None => None,
-    }
+    condition_number(listed, word).map(Head::Condition)
 }

@@ -25,14 +25,10 @@ fn listed_in(book: &Book) -> Listed
     requires { (vec_len book.now.properties ≤ 64) × ((vec_len book.now.conditions ≤ 16) × (vec_len book.now.formulas ≤ 32)) }
     ensures { result ≡ listed_in book.now }
 {
-    let last = match book.conditions.as_slice().last() {
-        Some(number) => *number,
-        None => 0,
-    };
     Listed {
         properties: book.properties.len() as u8,
         conditions: book.conditions.len() as u8,
-        last,
+        last: book.conditions.last().copied().unwrap_or(0),
         formulas: book.formulas.len() as u8,
     }
 }
@@ -54,16 +50,12 @@ fn read_line(heap: Global, listed: Listed, tokens: &[Token<'_>], at: usize) -> R
     requires { at < length tokens.now }
     ensures { MatchResult result (λ x. LineTook listed (words_of tokens.now) at x) (λ e. LineStopped listed (words_of tokens.now) at e) }
 {
-    let Some(head) = head_of(listed, word_at(tokens, at)) else {
-        return Err(Stop::Wrong(at));
-    };
+    let head = head_of(listed, word_at(tokens, at)).ok_or(Stop::Wrong(at))?;
     let end = line_end(tokens, at + 1);
     match read_body(heap, listed.properties, head, &tokens[at + 1..end]) {
         Ok(entry) => Ok(Line { entry, next: end }),
-        Err(stop) => match stop {
-            Stop::Wrong(n) => Err(Stop::Wrong(at + 1 + n)),
-            Stop::Memory => Err(Stop::Memory),
-        },
+        Err(Stop::Wrong(n)) => Err(Stop::Wrong(at + 1 + n)),
+        Err(Stop::Memory) => Err(Stop::Memory),
     }
 }
 
@@ -72,13 +64,9 @@ fn next_line(heap: Global, book: &mut Book, tokens: &[Token<'_>], at: usize) -> 
     requires { (at < length tokens.now) × (BookSays book.old (take at (words_of tokens.now))) }
     ensures { MatchResult result (λ next. NextTook (words_of tokens.now) at book.new next) (λ e. Stopped (words_of tokens.now) e) }
 {
-    match read_line(heap, listed_in(book), tokens, at) {
-        Ok(line) => match enter(book, line.entry) {
-            Ok(()) => Ok(line.next),
-            Err(_) => Err(Stop::Memory),
-        },
-        Err(stop) => Err(stop),
-    }
+    let line = read_line(heap, listed_in(book), tokens, at)?;
+    enter(book, line.entry)?;
+    Ok(line.next)
 }
 
 /// The book that the words say; or where they stop being one.
@@ -92,10 +80,7 @@ pub(crate) fn read_lines(heap: Global, tokens: &[Token<'_>]) -> Result<Book, Sto
     };
     let mut at = 0;
     while at < tokens.len() {
-        match next_line(heap, &mut book, tokens, at) {
-            Ok(next) => at = next,
-            Err(stop) => return Err(stop),
-        }
+        at = next_line(heap, &mut book, tokens, at)?;
     }
     Ok(book)
 }

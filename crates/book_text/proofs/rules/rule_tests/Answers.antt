@@ -1,45 +1,52 @@
-use Rattle.std.proofs.Common.{◌+◌, ◌<◌, [], length, get_or, codes, sym, ap, ◌∙◌, subst, arith, rules}
+use Rattle.std.proofs.Common.{◌+◌, codes, sym, ap, ◌∙◌, subst, arith, rules}
 use Rattle.std.specs.Str.{bytes_eq}
-use Rattle.book_text.specs.Rules.{loose}
+use Rattle.book_text.specs.Rules.{loose, scope_of}
 use Rattle.book_text.specs.States.{turning}
-use Rattle.book_text.specs.Took.{Took, Failed}
+use Rattle.book_text.specs.Took.{Took, Failed, TestsTaken}
 use Rattle.book_words.specs.Cuts.{words_of}
-use Rattle.book_text.proofs.Lexical.{same_true}
-use Rattle.book_text.proofs.Steps.{as_long, begun}
+use Rattle.book_text.proofs.Moves.{stops_with, read_at, word_there}
+use Rattle.book_text.specs.declared.parts.Stop.TheVariants.{Wrong}
+use Rattle.book_text.proofs.Steps.{as_long}
 use Rattle.book_text.proofs.Binding.{not_colon, tests_failed, not_ended, tests_taken}
 use Rattle.book_text.proofs.rules.rule_tests.Goals as goal
 
-pub returns-then-not-is : goal.returns-then-not-is
-returns-then-not-is c =
-    not_colon c.args.outer c.args.inner (words_of c.args.tokens.now) c.args.at (omega (arith, as_long c.args.tokens.now, c.requires.0)) (ap (λ z. bytes_eq z (codes ":")) (sym c.word_at.ensures) ∙ sym c.if-not-is.ensures) c.requires.1
+pub returns-in_err-tests : goal.returns-in_err-tests
+returns-in_err-tests c =
+    let x = c.args.cursor in
+    stops_with _ _ c.from_residual.result (Wrong x.at) (search rules) (not_colon c.args.outer c.args.inner (words_of x.tokens.now) x.at (omega (arith, as_long x.tokens.now, x.inside)) c.in_err-tests.ensures.1 c.requires)
 
-pub either-requires : goal.either-requires
-either-requires c =
-    let q = same_true (get_or (words_of c.args.tokens.now) c.args.at []) (codes ":") (ap (λ z. bytes_eq z (codes ":")) (sym c.word_at.ensures) ∙ sym c.if-not-is.ensures) in
-    (omega (arith, begun (words_of c.args.tokens.now) c.args.at 58 [] q, as_long c.args.tokens.now), (omega arith, omega arith))
+pub returns-in_err-part : goal.returns-in_err-part
+returns-in_err-part c =
+    let x = c.args.cursor in
+    let y = c.in_ok-tests.tests in
+    let b = c.in_ok-tests.ensures in
+    let e = c.in_err-part.field-0.0 in
+    stops_with _ _ c.from_residual-in_err-part.result e (search rules)
+    (tests_failed c.args.outer c.args.inner (words_of x.tokens.now) x.at b.word e
+    (read_at words_of (λ s a. Failed (turning (scope_of c.args.outer c.args.inner) 0 0) s a e) x y b.tokens b.at
+    (subst (λ z. Failed (turning z 0 0) (words_of y.tokens.now) y.at e) c.scope_of-scope.ensures c.in_err-part.ensures)))
 
-pub returns-in-Err : goal.returns-in-Err
-returns-in-Err c =
-    let s = words_of c.args.tokens.now in
-    let q = same_true (get_or s c.args.at []) (codes ":") (ap (λ z. bytes_eq z (codes ":")) (sym c.word_at.ensures) ∙ sym c.if-not-is.ensures) in
-    tests_failed c.args.outer c.args.inner s c.args.at q c.in-Err.stop (subst (λ z. Failed (turning z 0 0) s (c.args.at + 1) c.in-Err.stop) c.scope_of.ensures c.in-Err.ensures)
-
-pub returns-then-not-is-2 : goal.returns-then-not-is-2
-returns-then-not-is-2 c =
-    let s = words_of c.args.tokens.now in
-    let q = same_true (get_or s c.args.at []) (codes ":") (ap (λ z. bytes_eq z (codes ":")) (sym c.word_at.ensures) ∙ sym c.if-not-is.ensures) in
-    not_ended c.args.outer c.args.inner s c.args.at q c.in-Ok.part (subst (λ z. Took loose z 8 0 s (c.args.at + 1) c.in-Ok.part) c.scope_of.ensures c.in-Ok.ensures) (ap (λ z. bytes_eq z (codes "\n")) (sym c.word_at-2.ensures) ∙ sym c.if-not-is-2.ensures)
-
-pub overflow_add-result : goal.overflow_add-result
-overflow_add-result c =
-    let s = words_of c.args.tokens.now in
-    let q = same_true (get_or s c.in-Ok.part.next []) (codes "\n") (ap (λ z. bytes_eq z (codes "\n")) (sym c.word_at-2.ensures) ∙ sym c.if-not-is-2.ensures) in
-    let h : c.in-Ok.part.next < length c.args.tokens.now = omega (arith, begun s c.in-Ok.part.next 10 [] q, as_long c.args.tokens.now) in
-    search rules
+pub returns-in_err-end : goal.returns-in_err-end
+returns-in_err-end c =
+    let x = c.args.cursor in
+    let y = c.in_ok-tests.tests in
+    let b = c.in_ok-tests.ensures in
+    let z = c.in_ok-part.part in
+    stops_with _ _ c.from_residual-in_err-end.result (Wrong z.next) (search rules)
+    (not_ended c.args.outer c.args.inner (words_of x.tokens.now) x.at b.word z
+    (read_at words_of (λ s a. Took loose (scope_of c.args.outer c.args.inner) 8 0 s a z) x y b.tokens b.at
+    (subst (λ c. Took loose c 8 0 (words_of y.tokens.now) y.at z) c.scope_of-scope.ensures c.in_ok-part.ensures))
+    (ap (λ t. bytes_eq t (codes "\n")) (sym (word_there words_of x c.to.result c.to.ensures.tokens c.to.ensures.at)) ∙ c.in_err-end.ensures.1))
 
 pub returns : goal.returns
 returns c =
-    let s = words_of c.args.tokens.now in
-    let q = same_true (get_or s c.args.at []) (codes ":") (ap (λ z. bytes_eq z (codes ":")) (sym c.word_at.ensures) ∙ sym c.if-not-is.ensures) in
-    let e = same_true (get_or s c.in-Ok.part.next []) (codes "\n") (ap (λ z. bytes_eq z (codes "\n")) (sym c.word_at-2.ensures) ∙ sym c.if-not-is-2.ensures) in
-    tests_taken c.args.outer c.args.inner s c.args.at q c.in-Ok.part (subst (λ z. Took loose z 8 0 s (c.args.at + 1) c.in-Ok.part) c.scope_of.ensures c.in-Ok.ensures) e
+    let x = c.args.cursor in
+    let y = c.in_ok-tests.tests in
+    let b = c.in_ok-tests.ensures in
+    let z = c.in_ok-part.part in
+    let e = c.in_ok-end.ensures in
+    subst (λ n. TestsTaken c.args.outer c.args.inner (words_of x.tokens.now) x.at (record { property = record { outer = c.args.outer; inner = c.args.inner; tests = z.tests }; next = n })) (sym (e.at ∙ ap (λ n. n + 1) c.to.ensures.at))
+    (tests_taken c.args.outer c.args.inner (words_of x.tokens.now) x.at b.word z
+    (read_at words_of (λ s a. Took loose (scope_of c.args.outer c.args.inner) 8 0 s a z) x y b.tokens b.at
+    (subst (λ c. Took loose c 8 0 (words_of y.tokens.now) y.at z) c.scope_of-scope.ensures c.in_ok-part.ensures))
+    (sym (word_there words_of x c.to.result c.to.ensures.tokens c.to.ensures.at) ∙ e.word))

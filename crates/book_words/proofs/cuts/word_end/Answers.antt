@@ -18,7 +18,7 @@ returns-in-Some c =
       ahead = omega arith;
       within = omega (arith, first.0, n);
       plain = plain_ahead s c.args.at c.in-Some.n (omega (arith, first.0, n)) first.2;
-      ends = λ _. subst (λ b. kind_of b ≢ Plain) (get_d_part s c.args.at (length s) c.in-Some.n (omega (arith, first.0, n))) (first.1 0);
+      ends = λ _. subst (λ b. kind_of b ≢ Plain) (get_d_part s c.args.at (length s) c.in-Some.n 0 (omega (arith, first.0, n))) (first.1 0);
     }
 
 pub returns-in-None-clause-plain : goal.returns-in-None-clause-plain

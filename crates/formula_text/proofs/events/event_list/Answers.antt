@@ -1,24 +1,27 @@
-use Rattle.std.proofs.Common.{[], get_or, codes, sym, ap, ◌∙◌, arith}
-use Rattle.std.specs.Str.{bytes_eq}
+use Rattle.std.proofs.Common.{arith, rules}
 use Rattle.std.proofs.lemmas.Result.{MatchResult-weaker}
-use Rattle.book_text.proofs.Lexical.{same_true}
+use Rattle.book_text.specs.declared.parts.Stop.TheVariants.{Wrong}
+use Rattle.book_text.proofs.Moves.{stops_with, read_at}
+use Rattle.formula_text.specs.Rules.{no_events}
 use Rattle.formula_text.specs.Words.{rule_words}
-use Rattle.formula_text.specs.States.{dead}
+use Rattle.formula_text.specs.States.{operation}
+use Rattle.formula_text.specs.Took.{Lists, EventsTook, Failed}
+use Rattle.formula_text.proofs.Moves.{as_stop}
 use Rattle.formula_text.proofs.Steps.{rule_long}
-use Rattle.formula_text.proofs.Listed.{no_bracket, bracket_inside, list_took, list_stuck}
+use Rattle.formula_text.proofs.Listed.{no_bracket, list_took, list_stuck}
 use Rattle.formula_text.proofs.events.event_list.Goals as goal
 
-pub returns-then-not-is : goal.returns-then-not-is
-returns-then-not-is c = λ n st.
-    no_bracket n st (rule_words c.args.tokens.now) c.args.at (omega (arith, rule_long c.args.tokens.now, c.requires)) (ap (λ z. bytes_eq z (codes "[")) (sym c.rule_word.ensures) ∙ sym c.if-not-is.ensures)
-
-pub rest_of_list-requires : goal.rest_of_list-requires
-rest_of_list-requires c =
-    let g = same_true (get_or (rule_words c.args.tokens.now) c.args.at []) (codes "[") (ap (λ z. bytes_eq z (codes "[")) (sym c.rule_word.ensures) ∙ sym c.if-not-is.ensures) in
-    omega (arith, bracket_inside 0 dead (rule_words c.args.tokens.now) c.args.at g, rule_long c.args.tokens.now)
+pub returns-in_err-expect : goal.returns-in_err-expect
+returns-in_err-expect c = λ n st.
+    let x = c.args.cursor in
+    stops_with _ _ c.from_residual.result (Wrong x.at) (search rules) (no_bracket n st (rule_words x.tokens.now) x.at (omega (arith, rule_long x.tokens.now, x.inside)) c.in_err-expect.ensures.1)
 
 pub returns : goal.returns
 returns c = λ n st.
-    let s = rule_words c.args.tokens.now in
-    let g = same_true (get_or s c.args.at []) (codes "[") (ap (λ z. bytes_eq z (codes "[")) (sym c.rule_word.ensures) ∙ sym c.if-not-is.ensures) in
-    MatchResult-weaker c.rest_of_list.result (c.rest_of_list.ensures n st) (λ x y. list_took n st s c.args.at g x y) (λ e y. list_stuck n st s c.args.at g e y)
+    let x = c.args.cursor in
+    let s = rule_words x.tokens.now in
+    let y = c.in_ok-expect.field-0 in
+    let b = c.in_ok-expect.ensures in
+    MatchResult-weaker c.rest_of_list.result (c.rest_of_list.ensures n st)
+    (λ z h. list_took n st s x.at b.word z (read_at rule_words (λ s a. EventsTook no_events s a z) x y b.tokens b.at h))
+    (λ e h. as_stop e (λ z. list_stuck n st s x.at b.word z) (read_at rule_words (λ s a. Failed n (Lists no_events) (operation st) s a e) x y b.tokens b.at h))

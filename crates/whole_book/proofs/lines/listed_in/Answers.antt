@@ -1,8 +1,8 @@
-use Rattle.std.proofs.Common.{◌≡◌, ◌-◌, length, get_or, vec_items, sym, ap, ◌∙◌, arith}
+use Rattle.std.proofs.Common.{◌≡◌, ◌-◌, length, get_or, vec_items, ap, ◌∙◌, arith, unwrap_or}
+use Rattle.std.proofs.lemmas.Option.{unwrap_or-slice_get}
 use Rattle.whole_book.specs.Lines.{last_from}
-use Rattle.whole_book.proofs.Ending.{last_is, last_none}
+use Rattle.whole_book.proofs.Ending.{last_or}
 use Rattle.whole_book.proofs.lines.listed_in.Goals as goal
-use Rattle.whole_book.proofs.lines.listed_in.Goals.{in-Some, in-None}
 
 pub returns : goal.returns
 returns c =
@@ -10,12 +10,6 @@ returns c =
     let p : c.len.result ≡ length (vec_items b.properties) = omega (arith, c.len.ensures, b.properties.ok.0) in
     let k : c.len-2.result ≡ length (vec_items b.conditions) = omega (arith, c.len-2.ensures, b.conditions.ok.0) in
     let f : c.len-3.result ≡ length (vec_items b.formulas) = omega (arith, c.len-3.ensures, b.formulas.ok.0) in
-    let l : c.match-last.last ≡ last_from 0 (vec_items b.conditions) =
-    elim c.match-last.branch [
-      | in-Some w ↦
-          let x = w.in-Some.ensures.item in
-          let n = w.in-Some.number.now in
-          w.last-is ∙ x.1 ∙ ap (λ z. get_or z (length z - 1) n) c.as_slice.ensures.value ∙ sym (last_is 0 (vec_items b.conditions) n (omega (arith, x.3.0, ap length c.as_slice.ensures.value)))
-      | in-None w ↦ w.last-is ∙ sym (last_none 0 (vec_items b.conditions) (omega (arith, w.in-None.ensures.item.3, ap length c.as_slice.ensures.value)))
-    ] in
+    let l : c.unwrap_or.result ≡ last_from 0 (vec_items b.conditions) =
+    c.unwrap_or.ensures ∙ ap (λ o. unwrap_or o 0) (c.copied.ensures ∙ c.last.ensures.value) ∙ unwrap_or-slice_get c.deref.result.now _ 0 ∙ ap (λ z. get_or z (length z - 1) 0) c.deref.ensures.value ∙ last_or (vec_items b.conditions) in
     λ i. record { properties = p i; conditions = k i; last = l i; formulas = f i }

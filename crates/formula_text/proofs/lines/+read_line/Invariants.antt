@@ -1,6 +1,0 @@
-use Rattle.std.proofs.Common.{◌-◌}
-use Rattle.formula_text.proofs.lines.+read_line.Given as goal
-
--- the lists that may still follow fall
-abbrev pub decreases-read_line : goal.decreases-read_line
-decreases-read_line l = 3 - l.lists
