@@ -38,11 +38,11 @@ fn print_book(rt: &HostRuntime, book: &Book) -> anyhow::Result<()> {
     print!(rt; "{properties} properties, ")?;
     print_conditions(rt, &book.conditions)?;
     print!(rt; ", {formulas} formulas")?;
-    for (number, property) in (1..=properties).zip(&book.properties) {
+    for (number, property) in (1usize..).zip(&book.properties) {
         let rule = PropertyText(property);
         print!(rt; "; prop {number}: {rule}")?;
     }
-    for (number, formula) in (1..=formulas).zip(&book.formulas) {
+    for (number, formula) in (1usize..).zip(&book.formulas) {
         let rule = FormulaText(formula);
         print!(rt; "; form {number}: {rule}")?;
     }
@@ -70,9 +70,9 @@ fn run(rt: &HostRuntime) -> anyhow::Result<()> {
         bail!("usage: book_cases FILE");
     };
     let cases = fs::read_to_string(rt, path.as_str())?;
-    for (before, line) in cases.lines().enumerate() {
+    for (number, line) in (1usize..).zip(cases.lines()) {
         let text = decoded(rt.alloc(), line)?;
-        judge(rt, before.saturating_add(1), text.as_bytes())?;
+        judge(rt, number, text.as_bytes())?;
     }
     Ok(())
 }
