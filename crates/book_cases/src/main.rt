@@ -32,11 +32,11 @@ fn print_book(rt: &HostRuntime, book: &Book) -> anyhow::Result<()> {
     print!(rt; "{properties} properties, ")?;
     print_conditions(rt, &book.conditions)?;
     print!(rt; ", {formulas} formulas")?;
-    for (number, property) in (1..=properties).zip(&book.properties) {
+    for (number, property) in (1usize..).zip(&book.properties) {
         let rule = PropertyText(property);
         print!(rt; "; prop {number}: {rule}")?;
     }
-    for (number, formula) in (1..=formulas).zip(&book.formulas) {
+    for (number, formula) in (1usize..).zip(&book.formulas) {
         let rule = FormulaText(formula);
         print!(rt; "; form {number}: {rule}")?;
     }

@@ -6,7 +6,7 @@ use anyhow::{anyhow, bail};
 use host::{Bay, Host, Packed, Refusal, Row};
 use std::{env, fs};
 use table::{check, filled_rows};
-use table_text::{WrongWord, put_table, read_table, write_table};
+use table_text::{WrongWord, put_table, read_table, text_of_table};
 
 // The sled's image has room for this many rows, and the radar's bay for this many of them from this place on.
 const IMAGE_ROWS: usize = 64;
@@ -42,18 +42,10 @@ fn print_lawfulness<H: Host>(rt: &HostRuntime, host: &H) -> anyhow::Result<()> {
 
 // Stays: twin of that in `sled_book`, a few lines that print; a library of the two would hold nothing that a contract can say.
 fn print_table<H: Host>(rt: &HostRuntime, host: &H) -> anyhow::Result<()> {
-    let mut buf = vec![in rt.alloc(); 0u8; 65536]?;
-    match write_table(host, &mut buf) {
-        Ok(len) => {
-            println!(rt; "written as {len} bytes:")?;
-            let text = String::from_utf8_lossy(rt.alloc(), &buf[..len])?;
-            print!(rt; "{text}")?;
-        }
-        Err(refusal) => {
-            let number = refusal.number();
-            println!(rt; "refused by {number}: the text does not fit the buffer")?;
-        }
-    }
+    let text = text_of_table(rt.alloc(), host)?;
+    println!(rt; "written as {} bytes:", text.len())?;
+    let text = String::from_utf8_lossy(rt.alloc(), &text)?;
+    print!(rt; "{text}")?;
     Ok(())
 }
 

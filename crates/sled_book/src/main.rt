@@ -10,7 +10,7 @@ use host::{Bay, Host, Packed, Refusal};
 use scale::{Beside, Distance};
 use std::{env, fs};
 use table::{check, filled_rows};
-use table_text::{WrongWord, write_table};
+use table_text::{WrongWord, text_of_table};
 use whole_book::{TextsError, read_texts};
 
 // The sled's image has room for this many rows, and the radar's bay for this many of them from this place on.
@@ -57,18 +57,10 @@ fn print_lawfulness<H: Host>(rt: &HostRuntime, host: &H) -> anyhow::Result<()> {
 
 // Stays: twin of that in `sled`, a few lines that print; a library of the two would hold nothing that a contract can say.
 fn print_table<H: Host>(rt: &HostRuntime, host: &H) -> anyhow::Result<()> {
-    let mut buf = vec![in rt.alloc(); 0u8; 65536]?;
-    match write_table(host, &mut buf) {
-        Ok(len) => {
-            println!(rt; "written as {len} bytes:")?;
-            let text = String::from_utf8_lossy(rt.alloc(), &buf[..len])?;
-            print!(rt; "{text}")?;
-        }
-        Err(refusal) => {
-            let number = refusal.number();
-            println!(rt; "refused by {number}: the text does not fit the buffer")?;
-        }
-    }
+    let text = text_of_table(rt.alloc(), host)?;
+    println!(rt; "written as {} bytes:", text.len())?;
+    let text = String::from_utf8_lossy(rt.alloc(), &text)?;
+    print!(rt; "{text}")?;
     Ok(())
 }
 
@@ -88,7 +80,7 @@ fn verdict_word(verdict: bool) -> &'static str {
 }
 
 fn print_values<H: Host>(rt: &HostRuntime, host: &H, book: &Book) -> anyhow::Result<()> {
-    for (number, property) in (1..=book.properties.len()).zip(&book.properties) {
+    for (number, property) in (1usize..).zip(&book.properties) {
         let value: Beside<bool, Distance> = property_value(host, property);
         let verdict = verdict_word(value.first);
         let distance = value.second.value();

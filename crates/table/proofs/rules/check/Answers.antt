@@ -4,9 +4,6 @@ use Rattle.table.specs.Verdicts.{lawful_within}
 use Rattle.table.proofs.Ruling.{is_verdict}
 use Rattle.table.proofs.rules.check.Goals as goal
 
-pub loop-place-preserved : goal.loop-place-preserved
-loop-place-preserved g c = below_more _ _ c.loop-place.invariant c.in_default.ensures
-
 pub returns-in-Some : goal.returns-in-Some
 returns-in-Some g c =
     let t = g.H.Host.rows c.args.host.now in
