@@ -1,7 +1,9 @@
 -- From one step of each formula to the whole path of a book.
-use Rattle.std.proofs.Common.{◌≡◌, ℕ, zero, suc, ◌-◌, ◌*◌, ◌<◌, ◌≤◌, List, [], ◌∷◌, ◌++◌, map, length, get_or, drop, None, vec_items, vec_len, sym, ap, ◌∙◌, subst, arith}
+use Rattle.std.proofs.Common.{◌≡◌, ℕ, zero, suc, ◌-◌, ◌*◌, ◌<◌, ◌≤◌, List, [], ◌∷◌, ◌++◌, map, length, get_or, drop, Some, None, vec_items, vec_len, sym, ap, ◌∙◌, subst, arith}
 use Rattle.std.proofs.lemmas.List.{map-append, get_or-map}
+use Rattle.std.proofs.lemmas.Option.{slice_get_within, get_or_from_slice_get}
 use Rattle.scale.specs.Laws.{Ops, Laws}
+use Rattle.ftpl.specs.Numbers.{numbered}
 use Rattle.ftpl.specs.Paths.{Position, position_at}
 use Rattle.ftpl.specs.Formulas.{seen, formula_value, shown_value}
 use Rattle.ftpl.specs.declared.books.Book.{Book}
@@ -61,3 +63,11 @@ module _ {V : Type 0} (s : Ops V) where
       let on : suc m - 1 ≡ m = omega arith in
       get_or-map (λ g. formula_value s ps path g 0) fs m f s.bottom (omega arith)
       ∙ ap (λ g. formula_value s ps path g 0) (ap (λ k. get_or fs k f) (sym on) ∙ sym e)
+
+-- where a formula with a number was found
+pub numbered_here : (fs : List Formula) (n : ℕ) (f : Formula) → Some f ≡ numbered fs n → (1 ≤ n) × (n ≤ length fs) × (f ≡ get_or fs (n - 1) f)
+numbered_here fs zero f e = absurd (cc e)
+numbered_here fs (suc k) f e =
+    let on : suc k - 1 ≡ k = omega arith in
+    let inside = slice_get_within fs k f (sym e) in
+    (omega arith, omega arith, sym (get_or_from_slice_get fs k f f (sym e)) ∙ ap (λ i. get_or fs i f) (sym on))

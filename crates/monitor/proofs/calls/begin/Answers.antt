@@ -1,5 +1,4 @@
 use Rattle.std.proofs.Common.{◌≡◌, ◌*◌, ◌≤◌, length, drop, None, vec_items, vec_len, sym, refl, ap, ◌∙◌, arith}
-use Rattle.std.proofs.lemmas.Bool.{leb-true}
 use Rattle.ftpl.specs.Paths.{Position}
 use Rattle.monitor.specs.Boards.{room}
 use Rattle.monitor.proofs.Watching.{by_book, tidy_by, tidy_since, watches_first}
@@ -14,7 +13,7 @@ returns g c =
     let mid = c.start_all.new.board in
     let new = c.advance_all.new.board in
     let x : Position = record { rows = g.H.Host.rows c.args.host.now; event = None } in
-    let known : room c.len.result ≤ length old = leb-true _ _ (sym c.if-not-has_room.ensures) in
+    let known : room c.len.result ≤ length old = c.in_ok-check_room.ensures in
     let fits : room n ≤ length old = omega arith in
     let count : c.len-2.result ≡ n = c.len-2.ensures in
     let kept : drop (40 * n) mid ≡ drop (40 * n) old = ap (λ k. drop (40 * k) mid) (sym count) ∙ c.start_all.ensures.beyond ∙ ap (λ k. drop (40 * k) old) count in

@@ -1,5 +1,4 @@
 use Rattle.std.proofs.Common.{◌≤◌, length, Some, vec_items, vec_len, sym, refl, arith}
-use Rattle.std.proofs.lemmas.Bool.{leb-true}
 use Rattle.ftpl.specs.Paths.{Position}
 use Rattle.monitor.specs.Boards.{room}
 use Rattle.monitor.proofs.Watching.{by_book, tidy_by, watches_more}
@@ -12,7 +11,7 @@ returns g c =
     let old = c.args.board.now in
     let new = c.advance_all.new.board in
     let x : Position = record { rows = g.H.Host.rows c.args.host.now; event = Some c.args.event } in
-    let known : room c.len.result ≤ length old = leb-true _ _ (sym c.if-not-has_room.ensures) in
+    let known : room c.len.result ≤ length old = c.in_ok-check_room.ensures in
     let fits : room (vec_len book.formulas) ≤ length old = omega arith in
     record {
       outcome = record {
