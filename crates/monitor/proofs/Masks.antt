@@ -1,13 +1,11 @@
 -- Sets of leaves and their numbers, by computed tests.
-use Rattle.std.proofs.Common.{◌≡◌, ℕ, zero, suc, ◌+◌, ◌-◌, ◌/◌, ◌%◌, ◌<◌, ◌≤◌, Bool, true, false, cond, ◌&&◌, eqb, ◌==◌, List, get_or, bit_and, bit_or, sym, refl, ap, ◌∙◌, inl, inr, arith}
+use Rattle.std.proofs.Common.{◌≡◌, ℕ, zero, suc, ◌-◌, ◌/◌, ◌%◌, ◌<◌, ◌≤◌, Bool, true, false, cond, ◌&&◌, eqb, ◌==◌, List, get_or, bit_and, bit_or, sym, refl, ap, ◌∙◌, inl, inr, arith}
 use Rattle.std.proofs.Math.Nat.{div-one}
 use mathlib.Core.Path.{fun_ext}
 use Rattle.std.proofs.lemmas.Bool.{and_parts, eqb-true, cases_lt}
 use Rattle.scale.specs.Laws.{Ops}
 use Rattle.monitor.specs.Monitor.{Set, with, without}
 use Rattle.monitor.specs.Layout.{weight, mask, set_of, clauses}
-use Rattle.ftpl.specs.declared.formulas.Trace.{Trace}
-use Rattle.ftpl.specs.declared.formulas.Trace.TheVariants.{At, Both', Either'}
 use Rattle.ftpl.specs.declared.formulas.Slot.{Slot}
 use Rattle.ftpl.specs.declared.formulas.Slot.TheVariants.{First, Second, Third, Fourth}
 

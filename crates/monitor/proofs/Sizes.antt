@@ -1,5 +1,5 @@
 -- How much memory takes what is held of a formula.
-use Rattle.std.proofs.Common.{◌≡◌, ℕ, ◌+◌, ◌-◌, ◌*◌, ◌%◌, ◌<◌, ◌≤◌, max, arith}
+use Rattle.std.proofs.Common.{ℕ, ◌+◌, ◌-◌, ◌*◌, ◌%◌, ◌<◌, ◌≤◌, max, arith}
 use native.Mathlib.Nat.{mod-lt}
 use mir.Syntax.{Width, w8, w16, w32, w64, w128, Ty}
 use mir.Val.{bytes}

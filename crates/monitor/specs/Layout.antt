@@ -1,5 +1,5 @@
 -- Where the monitor's values stand on a board.
-use Rattle.std.specs.Prelude.{◌≡◌, ℕ, ◌+◌, ◌/◌, ◌%◌, ◌<◌, ◌≤◌, cond, List, get_or, ◌==◌, slice_index_or}
+use Rattle.std.specs.Prelude.{ℕ, ◌+◌, ◌/◌, ◌%◌, cond, List, ◌==◌, slice_index_or}
 use Rattle.scale.specs.Laws.{Ops}
 use Rattle.monitor.specs.Monitor.{Set, Cell, clause, kept, State}
 use Rattle.monitor.specs.declared.steps.Held.{Held}

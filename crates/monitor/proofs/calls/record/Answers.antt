@@ -1,4 +1,4 @@
-use Rattle.std.proofs.Common.{◌≤◌, length, Some, vec_items, vec_len, sym, refl, arith}
+use Rattle.std.proofs.Common.{◌≤◌, length, Some, vec_items, vec_len, refl, arith}
 use Rattle.ftpl.specs.Paths.{Position}
 use Rattle.monitor.specs.Boards.{room}
 use Rattle.monitor.proofs.Watching.{by_book, tidy_by, watches_more}

@@ -1,4 +1,4 @@
-use Rattle.std.proofs.Common.{length, arith}
+use Rattle.std.proofs.Common.{arith}
 use Rattle.ftpl.specs.Paths.{holds}
 use Rattle.monitor.proofs.Followed.{advanced}
 use Rattle.monitor.proofs.following.advance_all.Goals as goal

@@ -1,4 +1,4 @@
-use Rattle.std.proofs.Common.{sym, refl, ◌∙◌, arith}
+use Rattle.std.proofs.Common.{sym, ◌∙◌, arith}
 use Rattle.ftpl.proofs.Numbered.{numbered_none}
 use Rattle.monitor.proofs.Filled.{unnamed}
 use Rattle.monitor.proofs.working.needed_value.Goals as goal

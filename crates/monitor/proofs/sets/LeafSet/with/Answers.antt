@@ -1,4 +1,4 @@
-use Rattle.std.proofs.Common.{bit_or, ap, ◌∙◌, arith}
+use Rattle.std.proofs.Common.{bit_or, ap, ◌∙◌}
 use Rattle.monitor.specs.Layout.{set_of}
 use Rattle.monitor.proofs.Masks.{with_small, set_with}
 use Rattle.monitor.proofs.sets.LeafSet.with.Goals as goal

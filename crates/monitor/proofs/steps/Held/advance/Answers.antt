@@ -1,4 +1,3 @@
-use Rattle.std.proofs.Common.{arith}
 use Rattle.ftpl.specs.Paths.{holds}
 use Rattle.monitor.proofs.Made.{state_made}
 use Rattle.monitor.proofs.steps.Held.advance.Goals as goal

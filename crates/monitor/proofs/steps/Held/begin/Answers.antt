@@ -1,6 +1,4 @@
-use Rattle.std.proofs.Common.{replicate, refl, ◌∙◌}
-use Rattle.std.proofs.lemmas.List.{get_or-replicate}
-use Rattle.monitor.proofs.Masks.{filled}
+use Rattle.std.proofs.Common.{refl}
 use Rattle.monitor.proofs.Made.{begin_made}
 use Rattle.monitor.proofs.steps.Held.begin.Goals as goal
 
