@@ -1,6 +1,5 @@
 -- Sets of leaves and their numbers, by computed tests.
-use Rattle.std.proofs.Common.{◌≡◌, ℕ, zero, suc, ◌-◌, ◌/◌, ◌%◌, ◌<◌, ◌≤◌, Bool, true, false, cond, ◌&&◌, eqb, ◌==◌, List, get_or, bit_and, bit_or, sym, refl, ap, ◌∙◌, inl, inr, arith}
-use Rattle.std.proofs.Math.Nat.{div-one}
+use Rattle.std.proofs.Common.{◌≡◌, ℕ, zero, suc, ◌-◌, ◌<◌, ◌≤◌, Bool, true, false, cond, ◌&&◌, eqb, List, get_or, bit_and, bit_or, sym, refl, ap, ◌∙◌, inl, inr, arith}
 use mathlib.Core.Path.{fun_ext}
 use Rattle.std.proofs.lemmas.Bool.{and_parts, eqb-true, cases_lt}
 use Rattle.scale.specs.Laws.{Ops}
@@ -93,12 +92,6 @@ cond_le false n = omega arith
 pub mask_small : (c : Set) → mask c < 16
 mask_small c = omega (arith, cond_le (c First) 1, cond_le (c Second) 2, cond_le (c Third) 4, cond_le (c Fourth) 8)
 
-pub has_bit : (j : Slot) (k : ℕ) → (k / weight j % 2 == 1) ≡ set_of k j
-has_bit First k = ap (λ n. n % 2 == 1) (div-one k)
-has_bit Second k = refl
-has_bit Third k = refl
-has_bit Fourth k = refl
-
 pub with_small : (j : Slot) (k : ℕ) → k < 16 → bit_or k (weight j) < 16
 with_small j k h = omega (arith, mask_with j k h, mask_small (with j (set_of k)))
 
@@ -111,7 +104,3 @@ set_without j k h = ap set_of (sym (mask_without j k h)) ∙ set_of_mask (withou
 -- sixteen values that are right at each of the sixteen numbers
 pub filled : {V : Type 0} (s : Ops V) (r : List V) (f : Set → V) → ((k : ℕ) → k < 16 → get_or r k s.top ≡ f (set_of k)) → clauses s r ≡ f
 filled s r f h = fun_ext (λ c. h (mask c) (mask_small c) ∙ ap f (set_of_mask c))
-
--- and values read there
-pub clauses_at : {V : Type 0} (s : Ops V) (w : List V) (k : ℕ) → k < 16 → get_or w k s.top ≡ clauses s w (set_of k)
-clauses_at s w k h = ap (λ i. get_or w i s.top) (sym (mask_set_of k h))

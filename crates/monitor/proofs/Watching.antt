@@ -17,12 +17,6 @@ use Rattle.monitor.proofs.Whole.{run_more}
 use Rattle.monitor.proofs.Numbered.{segment, segment_list, right_numbered}
 
 module _ {V : Type 0} (s : Ops V) where
-  -- the lists that the code went over are those of the book
-  pub by_book : (fs fs' : List Formula) (ps ps' : List Property) (x : Position) (old new : List V) → fs ≡ fs' → ps ≡ ps' → Stepped s fs (λ f. step s f (seen s ps x)) old new → Stepped s fs' (λ f. step s f (seen s ps' x)) old new
-  by_book fs fs' ps ps' x old new e d h =
-      subst (λ (qs : List Property). Stepped s fs' (λ f. step s f (seen s qs x)) old new) d
-      (subst (λ (gs : List Formula). Stepped s gs (λ f. step s f (seen s ps x)) old new) e h)
-
   pub tidy_by : (n m : ℕ) (old new : List V) → n ≡ m → Tidy s n old new → Tidy s m old new
   tidy_by n m old new e h = subst (λ k. Tidy s k old new) e h
 

@@ -18,13 +18,7 @@ pub fn begin<H: Host, S: Scale>(host: &H, book: &Book, board: &mut [S]) -> Resul
 {
     check_room(book.formulas.len(), board.len())?;
     start_all(book.formulas.len(), board);
-    advance_all(
-        host,
-        book.properties.as_slice(),
-        book.formulas.as_slice(),
-        None,
-        board,
-    );
+    advance_all(host, book, None, board);
     Ok(())
 }
 
@@ -39,13 +33,7 @@ pub fn record<H: Host, S: Scale>(
     ensures watches { room (vec_len book.now.formulas) ≤ length board.old → (path : List Position) → Watches S.Scale.ops book.now path board.old → Watches S.Scale.ops book.now (path ++ (record { rows = H.Host.rows host.now; event = Some event } ∷ [])) board.new }
 {
     check_room(book.formulas.len(), board.len())?;
-    advance_all(
-        host,
-        book.properties.as_slice(),
-        book.formulas.as_slice(),
-        Some(event),
-        board,
-    );
+    advance_all(host, book, Some(event), board);
     Ok(())
 }
 

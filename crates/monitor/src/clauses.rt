@@ -95,6 +95,12 @@ impl<S: Scale> Clauses<S> {
         )
     }
 
+    fn launched_at(&self, leaves: Leaves, h: S, c: LeafSet) -> S
+        ensures { result ≡ launch_row S.Scale.ops leaves h (clauses S.Scale.ops self.now.0) (set_of c.number) }
+    {
+        self.at(c).both(h.either(unseen(leaves, c)))
+    }
+
     /// Merges a new start, still blank, behind the lock h.
     pub(crate) fn launch(&self, leaves: Leaves, h: S) -> Self
         ensures { clauses S.Scale.ops result.0 ≡ launch_row S.Scale.ops leaves h (clauses S.Scale.ops self.now.0) }
@@ -102,7 +108,7 @@ impl<S: Scale> Clauses<S> {
         Clauses::of(
             |c: LeafSet| -> S
                 ensures { result ≡ launch_row S.Scale.ops leaves h (clauses S.Scale.ops self.entry.now.0) (set_of c.number) }
-            { self.at(c).both(h.either(unseen(leaves, c))) },
+            { self.launched_at(leaves, h, c) },
         )
     }
 }

@@ -1,5 +1,5 @@
 // The formulas of a book on one board, forty values each.
-ghost use Rattle.std.specs.Prelude.{◌≡◌, ℕ, ◌+◌, ◌*◌, ◌^◌, ◌<◌, ◌≤◌, length, drop, MatchOption, nat_le};
+ghost use Rattle.std.specs.Prelude.{◌≡◌, ℕ, ◌+◌, ◌*◌, ◌^◌, ◌<◌, ◌≤◌, length, drop, MatchOption, nat_le, vec_items, vec_len};
 ghost use Rattle.ftpl.specs.Paths.{holds as holds_at};
 ghost use Rattle.ftpl.specs.Formulas.{seen};
 ghost use Rattle.monitor.specs.Monitor.{begin as begun, step, step_with};
@@ -8,8 +8,8 @@ ghost use Rattle.monitor.specs.Boards.{room, part, values_in, Stepped, Tidy};
 
 use crate::steps::Held;
 use crate::working::{clear, fill, values_of};
+use ftpl::books::Book;
 use ftpl::formulas::{Event, Formula};
-use ftpl::properties::Property;
 use host::Host;
 use scale::Scale;
 
@@ -17,7 +17,7 @@ use scale::Scale;
 pub fn has_room(formulas: usize, values: usize) -> bool
     ensures { result ≡ nat_le (room formulas) values }
 {
-    values >= 64 && formulas <= (values - 64) / 40
+    board_length(formulas).is_some_and(|needed| needed <= values)
 }
 
 /// The values that a board needs for so many formulas; none where no board can be that long.
@@ -52,6 +52,7 @@ pub(crate) fn start_all<S: Scale>(formulas: usize, board: &mut [S])
     ensures started { (i : ℕ) → i < formulas → viewed S.Scale.ops (part i board.new) ≡ begun S.Scale.ops }
     ensures beyond { drop (40 * formulas) board.new ≡ drop (40 * formulas) board.old }
 {
+    // Stays: what `chunks_exact_mut` lends leaves nothing known of the board, so that each part is begun would stay open.
     for i in 0..formulas {
         Held::begin().store(&mut board[40 * i..40 * i + 40]);
     }
@@ -60,18 +61,18 @@ pub(crate) fn start_all<S: Scale>(formulas: usize, board: &mut [S])
 /// Goes on with each formula by one position: the host's table, and what happened.
 pub(crate) fn advance_all<H: Host, S: Scale>(
     host: &H,
-    properties: &[Property],
-    formulas: &[Formula],
+    book: &Book,
     event: Option<Event>,
     board: &mut [S],
 )
-    requires { room (length formulas.now) ≤ length board.old }
-    ensures stepped { Stepped S.Scale.ops formulas.now (λ f. step S.Scale.ops f (seen S.Scale.ops properties.now (record { rows = H.Host.rows host.now; event = event }))) board.old board.new }
-    ensures tidy { Tidy S.Scale.ops (length formulas.now) board.old board.new }
+    requires { room (vec_len book.now.formulas) ≤ length board.old }
+    ensures stepped { Stepped S.Scale.ops (vec_items book.now.formulas) (λ f. step S.Scale.ops f (seen S.Scale.ops (vec_items book.now.properties) (record { rows = H.Host.rows host.now; event = event }))) board.old board.new }
+    ensures tidy { Tidy S.Scale.ops (vec_len book.now.formulas) board.old board.new }
 {
+    let formulas = book.formulas.as_slice();
     let (parts, rest) = board.split_at_mut(40 * formulas.len());
     let (working, _) = rest.split_at_mut(64);
-    fill(host, properties, formulas, working);
+    fill(host, book, working);
     follow(formulas, event, working, parts);
     clear(working);
 }

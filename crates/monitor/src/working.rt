@@ -1,12 +1,12 @@
 // The 64 working values: what the properties are worth at the position that is being recorded.
-ghost use Rattle.std.specs.Prelude.{◌≡◌, ◌+◌, ◌<◌, length, replicate};
+ghost use Rattle.std.specs.Prelude.{◌≡◌, ◌+◌, ◌<◌, length, replicate, vec_items};
 ghost use Rattle.std.specs.List.{list_any};
 ghost use Rattle.monitor.specs.Monitor.{number_of};
 ghost use Rattle.monitor.specs.Boards.{working_value, values_in, Serves, Ready, names};
 
+use ftpl::books::Book;
 use ftpl::formulas::{Formula, Leaf, Leaves, PerLeaf};
 use ftpl::numbers::numbered;
-use ftpl::properties::Property;
 use ftpl::values::numbered_value;
 use host::Host;
 use scale::Scale;
@@ -36,15 +36,11 @@ fn is_named(formulas: &[Formula], number: u8) -> bool
 }
 
 /// The value of a listed property that a formula names, once a position; bottom of any other.
-fn needed_value<H: Host, S: Scale>(
-    host: &H,
-    properties: &[Property],
-    formulas: &[Formula],
-    number: u8,
-) -> S
-    ensures { Serves S.Scale.ops (H.Host.rows host.now) properties.now formulas.now number result }
+fn needed_value<H: Host, S: Scale>(host: &H, book: &Book, number: u8) -> S
+    ensures { Serves S.Scale.ops (H.Host.rows host.now) (vec_items book.now.properties) (vec_items book.now.formulas) number result }
 {
-    if usize::from(number) <= properties.len() && is_named(formulas, number) {
+    let properties = book.properties.as_slice();
+    if usize::from(number) <= properties.len() && is_named(book.formulas.as_slice(), number) {
         numbered_value(host, properties, number)
     } else {
         S::bottom()
@@ -52,20 +48,15 @@ fn needed_value<H: Host, S: Scale>(
 }
 
 /// Sets the working values to what the properties that formulas name are worth on the host's table.
-pub(crate) fn fill<H: Host, S: Scale>(
-    host: &H,
-    properties: &[Property],
-    formulas: &[Formula],
-    values: &mut [S],
-)
+pub(crate) fn fill<H: Host, S: Scale>(host: &H, book: &Book, values: &mut [S])
     requires { length values.old ≡ 64 }
-    ensures { Ready S.Scale.ops (H.Host.rows host.now) properties.now formulas.now values.new }
+    ensures { Ready S.Scale.ops (H.Host.rows host.now) (vec_items book.now.properties) (vec_items book.now.formulas) values.new }
 {
     let needed: [S; 64] = array::from_fn(
         |k| -> S
             requires { k < 64 }
-            ensures { Serves S.Scale.ops (H.Host.rows host.entry.now) properties.entry.now formulas.entry.now (k + 1) result }
-        { needed_value(host, properties, formulas, k as u8 + 1) },
+            ensures { Serves S.Scale.ops (H.Host.rows host.entry.now) (vec_items book.entry.now.properties) (vec_items book.entry.now.formulas) (k + 1) result }
+        { needed_value(host, book, k as u8 + 1) },
     );
     values.copy_from_slice(&needed);
 }
