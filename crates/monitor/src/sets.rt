@@ -5,16 +5,11 @@ ghost use Rattle.monitor.specs.Layout.{set_of, weight as weight_of};
 
 use ftpl::formulas::Slot;
 
-/// The bit of a slot.
+/// The bit of a slot: bit 0 for First, bit 1 for Second, ..
 fn weight(j: Slot) -> usize
     ensures { result ≡ weight_of j }
 {
-    match j {
-        Slot::First => 1,
-        Slot::Second => 2,
-        Slot::Third => 4,
-        Slot::Fourth => 8,
-    }
+    1 << j as usize
 }
 
 /// A set of leaves by its number: First is bit 0, Second is bit 1, ..
