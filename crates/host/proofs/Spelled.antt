@@ -1,10 +1,13 @@
 -- Names as they are packed and as they are written.
-use Rattle.std.proofs.Common.{◌≡◌, ℕ, zero, suc, ◌+◌, ◌*◌, ◌/◌, ◌%◌, ◌<◌, ◌≤◌, true, ◌&&◌, ◌||◌, eqb, leb, List, [], ◌∷◌, map, length, get_or, take, sym, refl, ap, ◌∙◌, subst, ⊎_elim, arith, eq-eqb, ne_eqb, leb-true}
-use Rattle.std.specs.List.{range_with_len}
+use Rattle.std.proofs.Common.{◌≡◌, ℕ, zero, suc, ◌+◌, ◌-◌, ◌*◌, ◌<◌, ◌≤◌, Bool, true, false, cond, not, ◌&&◌, ◌||◌, eqb, ltb, leb, List, [], ◌∷◌, ◌++◌, length, get_or, take, drop, replicate, Some, None, Option, Decides, MatchOption, sym, refl, ap, ◌∙◌, subst, ⊎_elim, true≢false, arith, length-append, length-drop, eq-eqb, eqb-true, ne_eqb, leb-true, ltb-false}
+use Rattle.std.specs.Int.{w64, from_be_bytes}
+use Rattle.std.proofs.lemmas.Nat.{be_bytes_8}
+use Rattle.std.specs.Option.{option_eq, unwrap_or}
+use Rattle.std.specs.List.{position, position_or_len}
+use Rattle.std.proofs.lemmas.List.Sums.{prefix_len-le-length, fails_before_first, passes_at_first}
 use Rattle.std.proofs.ByRecursion.{All-get_or}
-use Rattle.std.proofs.lemmas.List.FromFn.{get_or-map-range_with_len}
-use Rattle.std.proofs.lemmas.List.{same_lists, length-take-le, get_or-take, get_or_past, get_or_default}
-use Rattle.std.proofs.lemmas.Bool.{or_cases, and_parts, cond-true, cond-false, cases_lt}
+use Rattle.std.proofs.lemmas.List.{take-append-le, take_all, get_or_past, get_or_append_left, get_or-append_right, get_or-drop, get_or-replicate}
+use Rattle.std.proofs.lemmas.Bool.{cases_Bool, or_cases, and_parts, cond-true, cond-false, cases_lt}
 use Rattle.host.specs.Names.{letter_or_digit, NameForm, IsName, packed, bytes_of, up_to_zero, name_bytes}
 
 -- a letter or digit is a byte above 47 and below 123
@@ -26,51 +29,48 @@ up_to_zero_lem (b ∷ bs) zero h before there = sym (cond-true (eqb b 0) [] (b �
 up_to_zero_lem (b ∷ bs) (suc r) h before there =
     ap (λ xs. b ∷ xs) (up_to_zero_lem bs r (omega arith) (λ k l. before (suc k) (omega arith)) (λ l. there (omega arith))) ∙ sym (cond-false (eqb b 0) [] (b ∷ up_to_zero bs) (ne_eqb b 0 (before 0 (omega arith))))
 
--- the eight bytes that are packed, lacking ones 0
-eight : List ℕ → List ℕ
-eight bs = get_or bs 0 0 ∷ get_or bs 1 0 ∷ get_or bs 2 0 ∷ get_or bs 3 0 ∷ get_or bs 4 0 ∷ get_or bs 5 0 ∷ get_or bs 6 0 ∷ get_or bs 7 0 ∷ []
+-- the first place that passes, or the length where none does
+pub position-or_length : {X : Type 0} (p : X → Bool) (xs : List X) → unwrap_or (position p xs) (length xs) ≡ position_or_len p xs
+position-or_length p xs =
+    let i = position_or_len p xs in
+    let n = length xs in
+    ⊎_elim
+    (λ (t : ltb i n ≡ true). ap (λ b. unwrap_or (cond b (Some i) None) n) t)
+    (λ (f : ltb i n ≡ false). ap (λ b. unwrap_or (cond b (Some i) None) n) f ∙ omega (arith, ltb-false i n f, prefix_len-le-length (λ x. not (p x)) xs))
+    (cases_Bool (ltb i n))
 
-module _ (a b c d e f g h : ℕ) (pa : a < 256) (pb : b < 256) (pc : c < 256) (pd : d < 256) (pe : e < 256) (pf : f < 256) (pg : g < 256) (ph : h < 256) where
-  abbrev whole : ℕ
-  whole = a * 72057594037927936 + b * 281474976710656 + c * 1099511627776 + d * 4294967296 + e * 16777216 + f * 65536 + g * 256 + h
+-- so it is what stands before the first place of a zero byte
+pub take_first_zero : (bs : List ℕ) → take (unwrap_or (position (λ b. eqb b 0) bs) (length bs)) bs ≡ up_to_zero bs
+take_first_zero bs =
+    let p = λ (b : ℕ). eqb b 0 in
+    let i = position_or_len p bs in
+    let h = prefix_len-le-length _ bs in
+    ap (λ k. take k bs) (position-or_length p bs) ∙ up_to_zero_lem bs i h (λ k l e. true≢false (sym (eq-eqb _ 0 e) ∙ fails_before_first p bs k 0 l)) (λ l. eqb-true _ 0 (passes_at_first p bs 0 l))
 
-  byte0 : whole / 72057594037927936 % 256 ≡ a
-  byte0 = omega arith
+abbrev pub zeros : List ℕ
+zeros = replicate 8 0
 
-  byte1 : whole / 281474976710656 % 256 ≡ b
-  byte1 = omega arith
+zero_at : (k : ℕ) → get_or zeros k 0 ≡ 0
+zero_at k = let z : ℕ = 0 in ⊎_elim (get_or-replicate 8 k z z) (get_or_past (replicate 8 z) k z) (cases_lt k 8)
 
-  byte2 : whole / 1099511627776 % 256 ≡ c
-  byte2 = omega arith
+-- bytes with zeros behind, up to eight of them
+module _ (bs : List ℕ) (few : length bs ≤ 8) where
+  abbrev pub padded : List ℕ
+  padded = bs ++ drop (length bs) zeros
 
-  byte3 : whole / 4294967296 % 256 ≡ d
-  byte3 = omega arith
+  length_padded : length padded ≡ 8
+  length_padded = length-append bs _ ∙ omega (arith, few, length-drop (length bs) zeros)
 
-  byte4 : whole / 16777216 % 256 ≡ e
-  byte4 = omega arith
+  padded_at : (k : ℕ) → get_or padded k 0 ≡ get_or bs k 0
+  padded_at k =
+      ⊎_elim
+      (λ (l : k < length bs). get_or_append_left bs _ 0 k l)
+      (λ (l : length bs ≤ k). get_or-append_right bs _ (length bs) k 0 refl l ∙ get_or-drop (length bs) zeros (k - length bs) 0 ∙ zero_at (length bs + (k - length bs)) ∙ sym (get_or_past bs k 0 l))
+      (cases_lt k (length bs))
 
-  byte5 : whole / 65536 % 256 ≡ f
-  byte5 = omega arith
-
-  byte6 : whole / 256 % 256 ≡ g
-  byte6 = omega arith
-
-  byte7 : whole % 256 ≡ h
-  byte7 = omega arith
-
-  unpacked : bytes_of whole ≡ a ∷ b ∷ c ∷ d ∷ e ∷ f ∷ g ∷ h ∷ []
-  unpacked = λ i. byte0 i ∷ byte1 i ∷ byte2 i ∷ byte3 i ∷ byte4 i ∷ byte5 i ∷ byte6 i ∷ byte7 i ∷ []
-
-eight_counted : (bs : List ℕ) → eight bs ≡ map (λ k. get_or bs k 0) (range_with_len 0 8)
-unfolding eight
-eight_counted bs = refl
-
-eight_at : (bs : List ℕ) (k d : ℕ) → k < 8 → get_or (eight bs) k d ≡ get_or bs k 0
-eight_at bs k d h = ap (λ xs. get_or xs k d) (eight_counted bs) ∙ get_or-map-range_with_len (λ k. get_or bs k 0) 0 8 k k d h (omega arith)
-
-length_eight : (bs : List ℕ) → length (eight bs) ≡ 8
-unfolding eight
-length_eight bs = refl
+  -- they are read as they are packed
+  pub packed_padded : from_be_bytes w64 padded ≡ packed bs
+  packed_padded = λ i. padded_at 0 i * 72057594037927936 + padded_at 1 i * 281474976710656 + padded_at 2 i * 1099511627776 + padded_at 3 i * 4294967296 + padded_at 4 i * 16777216 + padded_at 5 i * 65536 + padded_at 6 i * 256 + padded_at 7 i
 
 module _ (bs : List ℕ) (form : NameForm bs) where
   at_range : (k : ℕ) → k < length bs → (47 < get_or bs k 0) × (get_or bs k 0 < 123)
@@ -79,28 +79,27 @@ module _ (bs : List ℕ) (form : NameForm bs) where
   small : (k : ℕ) → get_or bs k 0 < 256
   small k = ⊎_elim (λ h. omega (arith, at_range k h)) (λ h. omega (arith, get_or_past bs k 0 h)) (cases_lt k (length bs))
 
-  bytes_packed : bytes_of (packed bs) ≡ eight bs
-  unfolding eight
-  bytes_packed = unpacked (get_or bs 0 0) (get_or bs 1 0) (get_or bs 2 0) (get_or bs 3 0) (get_or bs 4 0) (get_or bs 5 0) (get_or bs 6 0) (get_or bs 7 0) (small 0) (small 1) (small 2) (small 3) (small 4) (small 5) (small 6) (small 7)
-
-  front : take (length bs) (eight bs) ≡ bs
-  front =
-      let n : length (take (length bs) (eight bs)) ≡ length bs = length-take-le (length bs) (eight bs) (omega (arith, form.few, length_eight bs)) in
-      same_lists _ _ n
-      (λ k d h. get_or-take (length bs) (eight bs) k d (omega (arith, n)) ∙ eight_at bs k d (omega (arith, n, form.few)) ∙ get_or_default bs k 0 d (omega (arith, n)))
+  bytes_packed : bytes_of (packed bs) ≡ padded bs form.few
+  bytes_packed = be_bytes_8 (padded bs form.few) (packed bs) (length_padded bs form.few) (λ i. omega (arith, padded_at bs form.few i, small i)) (sym (packed_padded bs form.few))
 
   -- a name is written as it was before it was packed
   pub name_back : name_bytes (packed bs) ≡ bs
   name_back =
       ap up_to_zero bytes_packed
-      ∙ sym (up_to_zero_lem (eight bs) (length bs) (omega (arith, form.few, length_eight bs)) (λ k h e. omega (arith, at_range k h, eight_at bs k 0 (omega (arith, form.few)))) (λ h. eight_at bs (length bs) 0 (omega (arith, length_eight bs)) ∙ get_or_past bs (length bs) 0 (omega arith)))
-      ∙ front
+      ∙ sym (up_to_zero_lem (padded bs form.few) (length bs) (omega (arith, form.few, length_padded bs form.few)) (λ k h e. omega (arith, at_range k h, padded_at bs form.few k)) (λ h. padded_at bs form.few (length bs) ∙ get_or_past bs (length bs) 0 (omega arith)))
+      ∙ take-append-le (length bs) bs _ (omega arith)
+      ∙ take_all (length bs) bs (omega arith)
 
 -- the bytes that are written of a name are those of its form
 pub name_form : (n : ℕ) → IsName n → NameForm (name_bytes n) × (n ≡ packed (name_bytes n))
 name_form n (bs, form, e) =
     let same : bs ≡ name_bytes n = sym (name_back bs form) ∙ ap name_bytes (sym e) in
     (subst NameForm same form, e ∙ ap packed same)
+
+-- 64 bits are a name if they are what is packed of the bytes that are written of them
+pub packs_back : (n : ℕ) (o : Option ℕ) → MatchOption o (NameForm (name_bytes n) → ⊥) (λ m. NameForm (name_bytes n) × (m ≡ packed (name_bytes n))) → Decides (option_eq eqb o (Some n)) (IsName n)
+packs_back n (Some m) h = (λ t. (name_bytes n, h.0, sym (eqb-true m n t) ∙ h.1), λ p. eq-eqb m n (h.1 ∙ sym (name_form n p).1))
+packs_back n None h = (λ t. absurd (true≢false (sym t)), λ p. absurd (h (name_form n p).0))
 
 -- two names that are written the same are the same
 pub same_from_name : (m n : ℕ) → IsName m → IsName n → name_bytes m ≡ name_bytes n → m ≡ n

@@ -3,3 +3,4 @@ pub mod Names
 pub mod Numbers
 pub mod Packing
 pub mod Tables
+pub mod Words

@@ -36,8 +36,5 @@ pub trait Host {
 pub fn row_at<H: Host>(host: &H, place: u8) -> Row
     ensures { result ≡ row_at (H.Host.rows host.now) place }
 {
-    match host.read(place) {
-        Ok(row) => row,
-        Err(_) => EMPTY,
-    }
+    host.read(place).unwrap_or(EMPTY)
 }

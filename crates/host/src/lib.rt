@@ -11,7 +11,7 @@ mod rows;
 
 pub use bays::Bay;
 pub use hosts::{Host, row_at};
-pub use names::{is_letter_or_digit, is_name, pack_name, same_name, unpack_name};
+pub use names::{NameBytes, is_letter_or_digit, is_name, pack_name, same_name, unpack_name};
 pub use packed::{Packed, PackedLent, read_packed, write_packed};
 pub use plain::Plain;
 pub use refusals::{Refusal, Rule};

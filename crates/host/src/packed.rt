@@ -11,8 +11,7 @@ use crate::rows::Row;
 fn rows_in(words: &[u32]) -> u8
     ensures { result ≡ length (rows_in words.now) }
 {
-    let n = words.len() / 8;
-    if n < 255 { n as u8 } else { 255 }
+    (words.len() / 8).min(255) as u8
 }
 
 fn unpack_row(words: &[u32], place: u8) -> Row
@@ -75,6 +74,7 @@ pub fn write_packed(words: &mut [u32], place: u8, row: Row) -> Result<(), Refusa
     }
 }
 
+// Stays: two hosts, since a trait of words, owned or lent, would ask as many members of each as `Host` does here.
 /// The packed host over words of its own.
 #[derive(Drop)]
 pub struct Packed {

@@ -37,19 +37,17 @@ impl Host for Plain {
     }
 
     fn read(&self, place: u8) -> Result<Row, Refusal> {
-        if place < 255 {
-            Ok(self.rows[place as usize])
-        } else {
-            Err(Refusal::BeyondCapacity)
-        }
+        self.rows
+            .get(place as usize)
+            .copied()
+            .ok_or(Refusal::BeyondCapacity)
     }
 
     fn write(&mut self, place: u8, row: Row) -> Result<(), Refusal> {
-        if place < 255 {
-            self.rows[place as usize] = row;
-            Ok(())
-        } else {
-            Err(Refusal::BeyondCapacity)
+        if place >= self.capacity() {
+            return Err(Refusal::BeyondCapacity);
         }
+        self.rows[place as usize] = row;
+        Ok(())
     }
 }

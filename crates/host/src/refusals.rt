@@ -1,52 +1,65 @@
-ghost use Rattle.std.specs.Prelude.{◌≡◌};
+ghost use Rattle.std.specs.Prelude.{◌≡◌, Some};
 ghost use Rattle.host.specs.Numbers.{rule_number, refusal_number};
+ghost use Rattle.host.specs.Words.{rule_words};
+
+use std::fmt;
 
 /// The ten table rules, by what each asks of a row.
-#[derive(Clone, Copy)]
+#[derive(Clone, Copy, Debug, PartialEq, Eq)]
 pub enum Rule {
     /// R1: the kind is 0 to 4, and a row of kind 0 is the empty row
-    KnownKind,
+    KnownKind = 1,
     /// R2: link, range, value and up only where the kind has them
-    OwnFields,
+    OwnFields = 2,
     /// R3: a filled row's name has the form of a name
-    NameForm,
+    NameForm = 3,
     /// R4: a filled row's owner is a component; a component may have none
-    OwnerIsComponent,
+    OwnerIsComponent = 4,
     /// R5: a parameter's owner owns no component
-    ParameterOwner,
+    ParameterOwner = 5,
     /// R6: −1,000,000 ≤ lo ≤ value ≤ hi ≤ 1,000,000 in a parameter
-    Range,
+    Range = 6,
     /// R7: a link leads to a required interface
-    LinkEnd,
+    LinkEnd = 7,
     /// R8: the owners of two linked interfaces differ and have one same component as owner
-    LinkOwners,
+    LinkOwners = 8,
     /// R9: going from owner to owner ends at none
-    OwnersEnd,
+    OwnersEnd = 9,
     /// R10: no lower filled place with the same owner has the same name
-    OwnName,
+    OwnName = 10,
 }
 
 impl Rule {
     pub fn number(self) -> u8
         ensures { result ≡ rule_number self }
     {
-        match self {
-            Rule::KnownKind => 1,
-            Rule::OwnFields => 2,
-            Rule::NameForm => 3,
-            Rule::OwnerIsComponent => 4,
-            Rule::ParameterOwner => 5,
-            Rule::Range => 6,
-            Rule::LinkEnd => 7,
-            Rule::LinkOwners => 8,
-            Rule::OwnersEnd => 9,
-            Rule::OwnName => 10,
-        }
+        self as u8
+    }
+}
+
+impl fmt::Display for Rule {
+    ghost output = { λ rule. Some (rule_words rule) };
+
+    /// What is wrong with a row that breaks the rule.
+    fn fmt<W: fmt::Write>(&self, f: &mut fmt::Formatter<W>) -> fmt::Result {
+        f.write_str(match self {
+            Rule::KnownKind => "the kind is none of the four, or an empty row is not empty",
+            Rule::OwnFields => "a link, a range, a value or a start where the kind has none",
+            Rule::NameForm => "the name is not 1 to 8 letters or digits",
+            Rule::OwnerIsComponent => "the owner is no component",
+            Rule::ParameterOwner => "the parameter's owner owns a component",
+            Rule::Range => "the range is not -1000000 <= lo <= value <= hi <= 1000000",
+            Rule::LinkEnd => "the link does not lead to a required interface",
+            Rule::LinkOwners =>
+                "the owners of the linked interfaces do not differ, or do not share one component as owner",
+            Rule::OwnersEnd => "going from owner to owner does not end",
+            Rule::OwnName => "a lower row of the same owner has the same name",
+        })
     }
 }
 
 /// Why a call is denied. A denied call changes nothing, spoiling an open operation apart.
-#[derive(Clone, Copy)]
+#[derive(Clone, Copy, Debug, PartialEq, Eq)]
 pub enum Refusal {
     /// 1: the value board or the text buffer is too small
     TooSmall,
@@ -110,10 +123,10 @@ impl Refusal {
             Refusal::Tied => 13,
             Refusal::InUse => 14,
             Refusal::OwnerLoop => 15,
-            Refusal::TableWord { line: _, byte: _ } => 16,
-            Refusal::BookWord { line: _, byte: _ } => 17,
-            Refusal::Unlawful { place: _, rule: _ } => 18,
-            Refusal::ConditionBroken { property: _ } => 19,
+            Refusal::TableWord { .. } => 16,
+            Refusal::BookWord { .. } => 17,
+            Refusal::Unlawful { .. } => 18,
+            Refusal::ConditionBroken { .. } => 19,
             Refusal::NotLoaded => 20,
         }
     }

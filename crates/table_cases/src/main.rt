@@ -9,34 +9,25 @@ use table_text::read_table;
 
 fn decoded(heap: Global, line: &str) -> Result<Vec<u8>, AllocError> {
     let mut text = Vec::new(heap);
-    let mut escaped = false;
-    for b in line.as_bytes() {
-        if escaped {
-            text.push(if *b == b'n' { b'\n' } else { 0 })?;
-            escaped = false;
-        } else if *b == b'\\' {
-            escaped = true;
-        } else {
-            text.push(*b)?;
-        }
+    let mut bytes = line.bytes();
+    while let Some(b) = bytes.next() {
+        let decoded = match b {
+            b'\\' => match bytes.next() {
+                Some(b'n') => b'\n',
+                Some(_) => 0,
+                None => break,
+            },
+            b => b,
+        };
+        text.push(decoded)?;
     }
     Ok(text)
-}
-
-fn filled_rows(rows: &[host::Row; 255]) -> usize {
-    let mut filled = 0usize;
-    for row in rows {
-        if row.is_filled() {
-            filled = filled.saturating_add(1);
-        }
-    }
-    filled
 }
 
 fn judge(rt: &HostRuntime, number: usize, text: &[u8]) -> anyhow::Result<()> {
     match read_table(text) {
         Ok(rows) => {
-            let filled = filled_rows(&rows);
+            let filled = rows.iter().filter(|row| row.is_filled()).count();
             println!(rt; "{number}: {filled} rows")?;
         }
         Err(wrong) => {
@@ -54,9 +45,7 @@ fn run(rt: &HostRuntime) -> anyhow::Result<()> {
         return Err(anyhow!("usage: table_cases FILE"));
     };
     let cases = fs::read_to_string(rt, path.as_str())?;
-    let mut number = 0usize;
-    for line in cases.lines() {
-        number = number.saturating_add(1);
+    for (number, line) in (1usize..).zip(cases.lines()) {
         let text = decoded(rt.alloc(), line)?;
         judge(rt, number, &text)?;
     }

@@ -14,7 +14,7 @@ use Rattle.table_text.specs.declared.lines.Line.{Line}
 use Rattle.table_text.specs.Lines.{kind_text, place_text, key_text, value_text, ending, word, ended}
 use Rattle.table_text.specs.Texts.{parts, Word, Ended}
 use Rattle.table_text.specs.Keys.{Fits}
-use Rattle.table_text.proofs.Spelling.{million_fits}
+use Rattle.numerals.proofs.Spelling.{million_fits}
 
 -- a word and its end, cut from one text, are the same
 pub cut : (a b x y : List ℕ) → Word a → Word b → Ended x → Ended y → a ++ x ≡ b ++ y → (a ≡ b) × (x ≡ y)

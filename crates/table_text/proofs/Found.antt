@@ -1,42 +1,40 @@
 -- Where words end, and in which line an offset lies.
-use Rattle.std.proofs.Common.{◌≡◌, ℕ, ◌+◌, ◌-◌, ◌<◌, ◌≤◌, true, false, eqb, List, length, get_or, take, drop, sym, ap, ◌∙◌, subst, inl, inr, ⊎_elim, arith, length-drop, length-take, eq-eqb, ne_eqb}
-use Rattle.std.proofs.ByRecursion.{All-more}
-use Rattle.std.proofs.lemmas.List.{get_or-drop, drop_more, drop_all}
-use Rattle.std.proofs.lemmas.List.Sums.{count_by_more_yes, count_by_more_no, count_by-le-length}
-use Rattle.std.proofs.lemmas.Bool.{cases_eq}
+use Rattle.std.proofs.Common.{◌≡◌, ℕ, suc, ◌+◌, ◌-◌, ◌<◌, ◌≤◌, true, false, cond, not, eqb, List, [], ◌∷◌, length, get_or, take, drop, Some, None, Option, MatchOption, sym, ap, ◌∙◌, subst, refl, inl, inr, ⊎_elim, arith, length-drop, ◌≢◌}
+use Rattle.std.specs.List.{position_or_len, count_by, All}
+use Rattle.std.specs.Option.{option_map_or}
+use Rattle.std.proofs.lemmas.List.{get_or-drop, get_or-take, length-take-le}
+use Rattle.std.proofs.lemmas.Bool.{cases_Bool}
 use Rattle.table_text.specs.Texts.{parts, Word, Ended, Stands}
 
--- one byte more of a word
-pub word_more : (s : List ℕ) (a e : ℕ) → a ≤ e → e < length s → parts (get_or s e 0) ≡ false → Word (take (e - a) (drop a s)) → Word (take (e + 1 - a) (drop a s))
-word_more s a e h l p w =
-    let n : e - a + 1 ≡ e + 1 - a = omega arith in
-    let k : a + (e - a) ≡ e = omega arith in
-    subst (λ n. Word (take n (drop a s))) n (All-more (λ b. parts b ≡ false) (drop a s) (e - a) 0 (omega (arith, length-drop a s)) w (ap parts (get_or-drop a s (e - a) 0 ∙ ap (λ k. get_or s k 0) k) ∙ p))
+-- what stands before the first byte that parts words is a word, and ended there
+pub word_first : (s : List ℕ) → Word (take (position_or_len parts s) s) × Ended (drop (position_or_len parts s) s)
+word_first [] = (tt, tt)
+word_first (b ∷ s) =
+    let n = position_or_len parts s in
+    let P = λ (x : _). Word (take (cond (not x) (1 + n) 0) (b ∷ s)) × Ended (drop (cond (not x) (1 + n) 0) (b ∷ s)) in
+    ⊎_elim
+    (λ (t : parts b ≡ true). subst P (sym t) (tt, t))
+    (λ (f : parts b ≡ false).
+    let z : suc n ≡ 1 + n = omega arith in
+    subst P (sym f) (subst (λ m. Word (take m (b ∷ s)) × Ended (drop m (b ∷ s))) z ((f, (word_first s).0), (word_first s).1)))
+    (cases_Bool (parts b))
 
-pub ended_here : (s : List ℕ) (e : ℕ) → e < length s → parts (get_or s e 0) ≡ true → Ended (drop e s)
-ended_here s e h p = subst Ended (sym (drop_more s e 0 h)) p
+-- no newline, or the last one
+abbrev pub LastNewline : List ℕ → Option ℕ → Type 0
+LastNewline s r = MatchOption r (All (λ b. b ≢ 10) s) (λ i. (i < length s) × (get_or s i 0 ≡ 10) × All (λ b. b ≢ 10) (drop (i + 1) s))
 
-pub ended_last : (s : List ℕ) (e : ℕ) → length s ≤ e → Ended (drop e s)
-ended_last s e h = subst Ended (sym (drop_all e s h)) tt
-
--- one byte more ends a line, or does not
-module _ (s : List ℕ) (i line byte : ℕ) (h : i < length s) (st : Stands s i line byte) where
-  pub line_more : get_or s i 0 ≡ 10 → Stands s (i + 1) (line + 1) 0
-  line_more e = record {
-    lines = omega (arith, st.lines, count_by_more_yes (λ b. eqb b 10) s i 0 h (eq-eqb (get_or s i 0) 10 e));
-    back = omega arith;
-    within = λ k l m. absurd (omega arith);
-    start = inr (ap (λ k. get_or s k 0) (omega arith) ∙ e);
-  }
-
-  pub byte_more : (get_or s i 0 ≡ 10 → ⊥) → Stands s (i + 1) line (byte + 1)
-  byte_more ne = record {
-    lines = st.lines ∙ ap (λ n. 1 + n) (sym (count_by_more_no (λ b. eqb b 10) s i 0 h (ne_eqb (get_or s i 0) 10 ne)));
-    back = omega (arith, st.back);
-    within = λ k l m. ⊎_elim (λ (q : k ≡ i). subst (λ j. get_or s j 0 ≡ 10 → ⊥) (sym q) ne) (λ q. st.within k (omega arith) (omega arith)) (cases_eq k i);
-    start = ⊎_elim (λ q. inl (omega arith)) (λ q. inr (ap (λ k. get_or s k 0) (omega arith) ∙ q)) st.start;
-  }
-
--- there are no more lines than bytes
-pub few_lines : (s : List ℕ) (i line byte : ℕ) → Stands s i line byte → line ≤ 1 + i
-few_lines s i line byte st = omega (arith, st.lines, count_by-le-length (λ b. eqb b 10) (take i s), length-take i s)
+-- an offset stands as far behind the last newline before it
+pub stands_behind : (s : List ℕ) (at line : ℕ) (r : Option ℕ) → at ≤ length s → line ≡ 1 + count_by (λ b. eqb b 10) (take at s) → LastNewline (take at s) r → Stands s at line (option_map_or (λ i. at - i - 1) r at)
+stands_behind s at line None h e m =
+    let n = length-take-le at s h in
+    record { lines = e; back = omega arith; within = λ k low high q. m k 0 (omega (arith, n)) (get_or-take at s k 0 high ∙ q); start = inl refl }
+stands_behind s at line (Some i) h e m =
+    let n = length-take-le at s h in
+    record {
+      lines = e;
+      back = omega arith;
+      within = λ k low high q.
+          let j : i + 1 + (k - (i + 1)) ≡ k = omega (arith, n, m.0) in
+          m.2 (k - (i + 1)) 0 (omega (arith, n, m.0, length-drop (i + 1) (take at s))) (get_or-drop (i + 1) (take at s) (k - (i + 1)) 0 ∙ ap (λ j. get_or (take at s) j 0) j ∙ get_or-take at s k 0 high ∙ q);
+      start = inr (let j : at - (at - i - 1) - 1 ≡ i = omega (arith, n, m.0) in ap (λ j. get_or s j 0) j ∙ sym (get_or-take at s i 0 (omega (arith, n, m.0))) ∙ m.1);
+    }

@@ -2,7 +2,6 @@ pub mod Cuts
 pub mod Found
 pub mod Joins
 pub mod Lifted
-pub mod Spelling
 pub mod Splits
 pub mod Tables
 pub mod Taken

@@ -2,7 +2,7 @@
 use Rattle.std.proofs.Common.{◌≡◌, ℕ, zero, suc, ◌+◌, ◌-◌, ◌<◌, ◌≤◌, ◌⊎◌, List, [], ◌∷◌, ◌++◌, length, take, drop, set, replicate, sym, refl, ap, ◌∙◌, subst, inl, inr, ⊎_elim, append_assoc, arith, length-append, length-drop, length-set}
 use Rattle.std.specs.List.{flat_map, AllByRecursion}
 use Rattle.std.proofs.ByRecursion.{All-set}
-use Rattle.std.proofs.lemmas.List.{append-nil, length-take-le, drop-drop, drop_more, get_or-set_other, nil_from_length, length-replicate, take_all, take-append-drop}
+use Rattle.std.proofs.lemmas.List.{append-nil, flat_map_more, length-take-le, drop-drop, drop_more, get_or-set_other, nil_from_length, length-replicate, take_all, take-append-drop}
 use Rattle.host.specs.Tables.{empty_row, row_at}
 use Rattle.host.specs.declared.rows.Row.{Row}
 use Rattle.table_text.specs.declared.lines.Line.{Line}
@@ -13,7 +13,7 @@ use Rattle.table_text.specs.Reading.{spanned, Begun, WrongInLine}
 use Rattle.table_text.specs.Texts.{Sayable, SayableTable, TableText, Ended, FirstWrong, Stands}
 use Rattle.table_text.specs.declared.words.WrongWord.{WrongWord}
 use Rattle.table_text.specs.Marks.{Marks, ReadAs, WrongIn}
-use Rattle.table_text.proofs.Joins.{joined_push, take_split}
+use Rattle.table_text.proofs.Joins.{take_split}
 use Rattle.table_text.proofs.Splits.{after, after_push, lines_set, line_behind, table_lines_fit, texts_split, no_lines, one_text}
 
 -- the first `at` bytes of s are the text of table t, whose rows from `next` on are empty
@@ -32,7 +32,7 @@ module _ (t : List Row) (next : ℕ) (l : Line) (long : length t ≡ 255) (say :
       lines_set 0 t l.place l.row (omega (arith, f.inside)) f.row (λ k h. empty k (omega (arith, f.rises))) ∙ ap (λ p. lines_of 0 t ++ (record { place = p; row = l.row } ∷ [])) z
 
   pub text_set : text_of_table (set t l.place l.row) ≡ text_of_table t ++ line_text l
-  text_set = ap (flat_map line_text) lines_more ∙ joined_push line_text (lines_of 0 t) l
+  text_set = ap (flat_map line_text) lines_more ∙ sym (flat_map_more line_text [] (lines_of 0 t) l)
 
   pub sayable_set : SayableTable (set t l.place l.row)
   sayable_set = record { few = omega (arith, length-set t l.place l.row); rows = All-set (λ r. (r ≡ empty_row) ⊎ Sayable r) t l.place l.row (inr f.row) say.rows }

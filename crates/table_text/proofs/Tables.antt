@@ -9,7 +9,7 @@ use Rattle.host.specs.Tables.{empty_row, row_at}
 use Rattle.host.specs.declared.rows.Row.{Row}
 use Rattle.table_text.specs.declared.lines.Line.{Line}
 use Rattle.table_text.specs.Lines.{line_text, row_text, lines_of, text_of_table}
-use Rattle.table_text.proofs.Joins.{joined_append}
+use Rattle.std.proofs.lemmas.Grind.{flat_map-append}
 
 cond_append : {X : Type 0} (b : Bool) (x : X) (ys zs ws : List X) → ys ≡ zs ++ ws → cond b ys (x ∷ ys) ≡ cond b zs (x ∷ zs) ++ ws
 cond_append true x ys zs ws e = e
@@ -31,25 +31,25 @@ text_more t i h =
     let n : 0 + length (take i t) ≡ i = omega (arith, length-take-le i t (omega arith)) in
     ap text_of_table (take_more t i empty_row h)
     ∙ ap (flat_map line_text) (lines_append 0 (take i t) (row_at t i ∷ []) ∙ ap (λ q. lines_of 0 (take i t) ++ lines_of q (row_at t i ∷ [])) n)
-    ∙ joined_append line_text (lines_of 0 (take i t)) (lines_of i (row_at t i ∷ []))
+    ∙ flat_map-append line_text (lines_of 0 (take i t)) (lines_of i (row_at t i ∷ []))
     ∙ ap (λ s. text_of_table (take i t) ++ s) (row_lines (eqb (row_at t i).kind 0) (record { place = i; row = row_at t i }))
 
 -- the text of the first rows is a front of the whole
 pub text_front : (t : List Row) (i : ℕ) → length (text_of_table (take i t)) ≤ length (text_of_table t)
 text_front t i =
-    let e = sym (ap text_of_table (take-append-drop i t)) ∙ ap (flat_map line_text) (lines_append 0 (take i t) (drop i t)) ∙ joined_append line_text (lines_of 0 (take i t)) _ in
+    let e = sym (ap text_of_table (take-append-drop i t)) ∙ ap (flat_map line_text) (lines_append 0 (take i t) (drop i t)) ∙ flat_map-append line_text (lines_of 0 (take i t)) _ in
     omega (arith, ap length e, length-append (text_of_table (take i t)) (flat_map line_text (lines_of (0 + length (take i t)) (drop i t))))
 
 pub text_all : (t : List Row) (i : ℕ) → length t ≤ i → text_of_table (take i t) ≡ text_of_table t
 text_all t i h = ap text_of_table (take_all i t h)
 
--- a row's text, as spelled out in an array
-module _ (t : List Row) (i : ℕ) (h : i < length t) (bytes : List ℕ) (len : ℕ) (r : Row) (room : length bytes ≡ 162) (within : len ≤ 162) (spelt : take len bytes ≡ row_text i r) (same : r ≡ row_at t i) where
-  pub row_spelt : take len bytes ≡ row_text i (row_at t i)
-  row_spelt = spelt ∙ ap (row_text i) same
+-- a row's text, as it is spelled out
+module _ (t : List Row) (i : ℕ) (h : i < length t) (bytes : List ℕ) (r : Row) (spelt : bytes ≡ row_text i r) (same : r ≡ row_at t i) where
+  pub text_on : text_of_table (take (i + 1) t) ≡ text_of_table (take i t) ++ bytes
+  text_on = text_more t i h ∙ ap (λ s. text_of_table (take i t) ++ s) (sym (spelt ∙ ap (row_text i) same))
 
-  pub length_more : length (text_of_table (take (i + 1) t)) ≡ length (text_of_table (take i t)) + len
-  length_more = ap length (text_more t i h ∙ ap (λ s. text_of_table (take i t) ++ s) (sym row_spelt)) ∙ length-append (text_of_table (take i t)) (take len bytes) ∙ ap (λ n. length (text_of_table (take i t)) + n) (length-take-le len bytes (omega (arith, room, within)))
+  pub length_on : length (text_of_table (take (i + 1) t)) ≡ length (text_of_table (take i t)) + length bytes
+  length_on = ap length text_on ∙ length-append (text_of_table (take i t)) bytes
 
 -- one place more of a table that is filled from its start
 pub fill_more : (f : ℕ → Row) (u : List Row) (i : ℕ) → i < length u → set (map f (range_with_len 0 i) ++ drop i u) i (f i) ≡ map f (range_with_len 0 (i + 1)) ++ drop (i + 1) u

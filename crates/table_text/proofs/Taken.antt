@@ -6,7 +6,7 @@ use Rattle.table_text.specs.declared.lines.Key.{Key}
 use Rattle.table_text.specs.declared.lines.Line.{Line}
 use Rattle.table_text.specs.Lines.{value_text}
 use Rattle.table_text.specs.Keys.{Fits, before}
-use Rattle.table_text.proofs.Spelling.{million_fits}
+use Rattle.numerals.proofs.Spelling.{million_fits}
 
 -- l is the line with what the text says put in behind the key k
 abbrev pub Took : ℕ → List ℕ → Line → Line → Key → Type 0

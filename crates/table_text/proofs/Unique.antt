@@ -11,9 +11,9 @@ use Rattle.table_text.specs.declared.lines.Key.TheVariants.{Place, Kind, Name, O
 use Rattle.table_text.specs.declared.lines.Line.{Line}
 use Rattle.table_text.specs.Lines.{kind_text, place_text, key_text, value_text, word, ended, order, line_text}
 use Rattle.table_text.specs.Keys.{Fits, keys_before, keys_after}
-use Rattle.table_text.proofs.Joins.{joined_append}
+use Rattle.std.proofs.lemmas.Grind.{flat_map-append}
 use Rattle.table_text.proofs.Cuts.{strip, same_word, digits}
-use Rattle.table_text.proofs.Spelling.{million_fits, one_number}
+use Rattle.numerals.proofs.Spelling.{million_fits, one_number}
 
 -- the kind that a word of text says
 abbrev kind_of : List ℕ → ℕ
@@ -67,7 +67,7 @@ module _ {n m : ℕ} {e l : Line} (fe : Fits n e) (fl : Fits m l) (r s : List �
   unfolding word
   value_same k =
       let a = sym (line_split e k r) ∙ q ∙ line_split l k s in
-      let b = strip fe fl (keys_before k) (k ∷ keys_after k) r _ (a ∙ ap (λ t. t ++ s) (joined_append (ended l) (keys_before k) (k ∷ keys_after k)) ∙ append_assoc (flat_map (ended l) (keys_before k)) (flat_map (ended l) (k ∷ keys_after k)) s) in
+      let b = strip fe fl (keys_before k) (k ∷ keys_after k) r _ (a ∙ ap (λ t. t ++ s) (flat_map-append (ended l) (keys_before k) (k ∷ keys_after k)) ∙ append_assoc (flat_map (ended l) (keys_before k)) (flat_map (ended l) (k ∷ keys_after k)) s) in
       append_cancel_left (key_text k) (value_text k e) (value_text k l) (same_word fe fl k (keys_after k) (keys_after k) r s b).0
 
   -- two lines that begin one text are the same

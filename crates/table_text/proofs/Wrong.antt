@@ -1,5 +1,5 @@
 -- The first wrong word of a line, in the ways in which one can be met.
-use Rattle.std.proofs.Common.{◌≡◌, ℕ, zero, suc, ◌+◌, ◌-◌, ◌<◌, ◌≤◌, ◌⊎◌, List, [], ◌∷◌, ◌++◌, length, get_or, take, drop, Some, None, Option, sym, refl, ap, ◌∙◌, subst, inl, inr, ⊎_elim, append_assoc, arith, MatchOption}
+use Rattle.std.proofs.Common.{◌≡◌, ℕ, zero, suc, ◌+◌, ◌-◌, ◌<◌, ◌≤◌, ◌⊎◌, List, [], ◌∷◌, ◌++◌, length, get_or, take, drop, Some, None, Option, Ok, Err, Result, MatchResult, sym, refl, ap, ◌∙◌, subst, inl, inr, ⊎_elim, append_assoc, arith, MatchOption}
 use Rattle.std.specs.List.{flat_map}
 use Rattle.std.proofs.lemmas.List.{append-nil, length-take-le, take_more, drop_more, drop_all}
 use Rattle.table_text.specs.declared.lines.Key.{Key}
@@ -10,24 +10,32 @@ use Rattle.table_text.specs.Lines.{ending, word, ended, order, line_text}
 use Rattle.table_text.specs.Reading.{Begun, WrongInLine}
 use Rattle.table_text.specs.Texts.{Word, Ended}
 use Rattle.table_text.proofs.Cuts.{cut, line_word, ending_parts, word_on, strip}
-use Rattle.table_text.proofs.Joins.{joined_append, take_split}
+use Rattle.std.proofs.lemmas.Grind.{flat_map-append}
+use Rattle.table_text.proofs.Joins.{take_split}
 use Rattle.table_text.proofs.Unique.{line_split}
 
 pub some_weaker : {T : Type 0} (o : Option T) {P P' : Type 0} {Q Q' : T → Type 0} → MatchOption o P Q → (P → P') → ((x : T) → Q x → Q' x) → MatchOption o P' Q'
 some_weaker None c p q = p c
 some_weaker (Some x) c p q = q x c
 
+pub err_with : {A E : Type 0} (r : Result A E) (e : E) (P : A → Type 0) (Q : E → Type 0) → r ≡ Err e → Q e → MatchResult r P Q
+err_with r e P Q is q = subst (λ r. MatchResult r P Q) (sym is) q
+
+pub err_only : {A E : Type 0} (r : Result A E) (P : A → Type 0) (Q : E → Type 0) → MatchResult r P Q → ((x : A) → P x → ⊥) → (e : E) × (r ≡ Err e) × Q e
+err_only (Ok x) P Q m none = absurd (none x m)
+err_only (Err e) P Q m none = (e, refl, m)
+
 -- a line, parted at the word of a key
 pub line_parts : (l : Line) (k : Key) → before l k ++ (word l k ++ (ending k ∷ flat_map (ended l) (keys_after k))) ≡ line_text l
 line_parts l k =
     sym (ap (λ s. before l k ++ s) (sym (append-nil _) ∙ word_on l k (keys_after k) [] ∙ ap (λ s. word l k ++ (ending k ∷ s)) (append-nil (flat_map (ended l) (keys_after k)))))
-    ∙ sym (joined_append (ended l) (keys_before k) (k ∷ keys_after k))
+    ∙ sym (flat_map-append (ended l) (keys_before k) (k ∷ keys_after k))
     ∙ sym (append-nil _) ∙ sym (line_split l k []) ∙ append-nil (line_text l)
 
 -- what stands before a word but the first ends with a blank
 module _ (l : Line) (ks : List Key) (j k : Key) (e : ending j ≡ 32) where
   blank_last : flat_map (ended l) (ks ++ (j ∷ [])) ≡ (flat_map (ended l) ks ++ word l j) ++ (32 ∷ [])
-  blank_last = joined_append (ended l) ks (j ∷ []) ∙ ap (λ s. flat_map (ended l) ks ++ s) (append-nil (ended l j) ∙ ap (λ b. word l j ++ (b ∷ [])) e) ∙ sym (append_assoc (flat_map (ended l) ks) (word l j) (32 ∷ []))
+  blank_last = flat_map-append (ended l) ks (j ∷ []) ∙ ap (λ s. flat_map (ended l) ks ++ s) (append-nil (ended l j) ∙ ap (λ b. word l j ++ (b ∷ [])) e) ∙ sym (append_assoc (flat_map (ended l) ks) (word l j) (32 ∷ []))
 
 pub parted : (l : Line) (k : Key) → (before l k ≡ []) ⊎ ((front : List ℕ) × (before l k ≡ front ++ (32 ∷ [])))
 parted l Place = inl refl

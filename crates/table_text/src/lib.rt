@@ -2,7 +2,6 @@
 #![tactic(auto)]
 
 mod lines;
-mod numerals;
 mod puts;
 mod reads;
 mod words;
@@ -13,4 +12,4 @@ pub use numerals::{natural_between, value_within};
 pub use puts::{is_within, put_table};
 pub use reads::read_table;
 pub use words::{WrongWord, wrong_word};
-pub use writes::write_table;
+pub use writes::{text_of_table, write_table};

@@ -9,24 +9,17 @@ use host::{EMPTY, Host, Refusal, Row};
 fn row_or_empty(table: &[Row], place: u8) -> Row
     ensures { result ≡ row_at table.now place }
 {
-    let place = place as usize;
-    if place < table.len() {
-        table[place]
-    } else {
-        EMPTY
-    }
+    table.get(place as usize).copied().unwrap_or(EMPTY)
 }
 
 /// Whether every filled row of a table has a place below the capacity.
 pub fn is_within(table: &[Row], capacity: u8) -> bool
     ensures { Decides result (Within table.now capacity) }
 {
-    for place in capacity as usize..table.len() {
-        if table[place].is_filled() {
-            return false;
-        }
-    }
-    true
+    table
+        .iter()
+        .skip(capacity as usize)
+        .all(|row| !row.is_filled())
 }
 
 /// Puts the rows of a table into a host; places that the table does not have become empty.
@@ -41,7 +34,7 @@ pub fn put_table<H: Host>(table: &[Row], host: &mut H) -> Result<(), Refusal>
         return Err(Refusal::BeyondCapacity);
     }
     for place in 0..capacity {
-        let _ = host.write(place, row_or_empty(table, place));
+        host.write(place, row_or_empty(table, place))?;
     }
     Ok(())
 }

@@ -8,18 +8,18 @@ ghost use Rattle.table_text.specs.Reading.{WrongInLine};
 ghost use Rattle.table_text.specs.Texts.{SayableTable};
 
 use crate::lines::{Key, Line, ORDER};
-use crate::numerals::{natural_between, value_within};
 use crate::words::{Span, WrongWord, word_end, wrong_word};
-use host::{COMPONENT, EMPTY, NONE, Row, pack_name};
+use host::{COMPONENT, EMPTY, NONE, PARAMETER, PROVIDED, REQUIRED, Row, pack_name};
+use numerals::{natural_between, value_within};
 
 fn kind_named(text: &[u8]) -> Option<u8>
     ensures { MatchOption result ((k : ℕ) → 0 < k → k ≤ 4 → text.now ≢ kind_text k) (λ k. (0 < k) × (k ≤ 4) × (text.now ≡ kind_text k)) }
 {
     match text {
-        b"comp" => Some(1),
-        b"prov" => Some(2),
-        b"req" => Some(3),
-        b"par" => Some(4),
+        b"comp" => Some(COMPONENT),
+        b"prov" => Some(PROVIDED),
+        b"req" => Some(REQUIRED),
+        b"par" => Some(PARAMETER),
         _ => None,
     }
 }
@@ -58,10 +58,7 @@ fn take_word(line: Line, key: Key, text: &[u8], next: u8) -> Option<Line>
     requires { Fits next line }
     ensures { MatchOption result ((l : Line) → Fits next l → text.now ≡ word l key → ⊥) (λ l. Fits next l × (text.now ≡ word l key) × (before l key ≡ before line key)) }
 {
-    match text.strip_prefix(key.text()) {
-        Some(value) => take_value(line, key, value, next),
-        None => None,
-    }
+    take_value(line, key, text.strip_prefix(key.text())?, next)
 }
 
 // Reads the word of a key, and what ends it, from `at` on.
@@ -72,23 +69,15 @@ fn read_word(rest: &[u8], at: usize, line: Line, key: Key, next: u8) -> Result<(
     ensures { MatchResult result (λ x. Fits next x.0 × (x.1 ≤ length rest.now) × (take x.1 rest.now ≡ before x.0 key ++ ended x.0 key)) (λ e. WrongInLine next rest.now e) }
 {
     let end = word_end(rest, at);
-    let Some(taken) = take_word(line, key, &rest[at..end], next) else {
-        return Err(Span { at, end });
-    };
-    if end == rest.len() {
-        return Err(Span { at: end, end });
-    }
-    if rest[end] == key.ending() {
-        return Ok((taken, end + 1));
-    }
-    if rest[end] == b' ' {
-        let end_of_next = word_end(rest, end + 1);
-        return Err(Span {
+    let taken = take_word(line, key, &rest[at..end], next).ok_or(Span { at, end })?;
+    match rest.get(end) {
+        Some(b) if *b == key.ending() => Ok((taken, end + 1)),
+        Some(b' ') => Err(Span {
             at: end + 1,
-            end: end_of_next,
-        });
+            end: word_end(rest, end + 1),
+        }),
+        _ => Err(Span { at: end, end }),
     }
-    Err(Span { at: end, end })
 }
 
 // A line that may come where places below `next` are past; what is read is put into it value by value.
@@ -109,19 +98,15 @@ fn read_line(rest: &[u8], next: u8) -> Result<(Line, usize), Span>
     ensures { MatchResult result (λ x. Fits next x.0 × (x.1 ≤ length rest.now) × (take x.1 rest.now ≡ line_text x.0)) (λ e. WrongInLine next rest.now e) }
 {
     if next > 254 {
-        let end = word_end(rest, 0);
-        return Err(Span { at: 0, end });
+        return Err(Span {
+            at: 0,
+            end: word_end(rest, 0),
+        });
     }
     let mut line = sample_line(next);
     let mut at = 0;
     for key in ORDER {
-        match read_word(rest, at, line, key, next) {
-            Ok((taken, end)) => {
-                line = taken;
-                at = end;
-            }
-            Err(wrong) => return Err(wrong),
-        }
+        (line, at) = read_word(rest, at, line, key, next)?;
     }
     Ok((line, at))
 }
@@ -136,14 +121,14 @@ pub fn read_table<'a>(text: &'a [u8]) -> Result<[Row; 255], WrongWord<'a>>
     let mut next = 0;
     let mut at = 0;
     while at < text.len() {
-        match read_line(&text[at..], next) {
-            Ok((line, len)) => {
-                table[line.place as usize] = line.row;
-                next = line.place + 1;
-                at += len;
-            }
-            Err(wrong) => return Err(wrong_word(text, at + wrong.at, at + wrong.end)),
-        }
+        let (line, len) = read_line(&text[at..], next).map_err(|wrong| wrong_word(
+            text,
+            at + wrong.at,
+            at + wrong.end,
+        ))?;
+        table[line.place as usize] = line.row;
+        next = line.place + 1;
+        at += len;
     }
     Ok(table)
 }

@@ -1,4 +1,5 @@
-ghost use Rattle.std.specs.Prelude.{◌≡◌, ◌-◌, ◌≤◌, length, take, drop};
+ghost use Rattle.std.specs.Prelude.{◌≡◌, ◌≢◌, ◌+◌, ◌-◌, ◌<◌, ◌≤◌, length, take, drop, slice_index, MatchOption, All};
+ghost use Rattle.std.specs.List.{position};
 ghost use Rattle.table_text.specs.Texts.{parts, Word, Ended, Stands};
 ghost use Rattle.table_text.specs.Marks.{Marks};
 
@@ -27,6 +28,19 @@ fn is_parting(b: u8) -> bool
     b == b' ' || b == b'\n'
 }
 
+fn first_parting(text: &[u8]) -> Option<usize>
+    ensures { result ≡ position parts text.now }
+{
+    text.iter().position(|b| is_parting(*b))
+}
+
+// The place of the last newline in a text.
+fn last_newline(text: &[u8]) -> Option<usize>
+    ensures { MatchOption result (All (λ b. b ≢ 10) text.now) (λ i. (i < length text.now) × (slice_index text.now i ≡ 10) × All (λ b. b ≢ 10) (drop (i + 1) text.now)) }
+{
+    text.iter().rposition(|b| *b == b'\n')
+}
+
 // Where the word that begins at `at` ends: before a blank or a newline, or with the text.
 pub(crate) fn word_end(text: &[u8], at: usize) -> usize
     requires { at ≤ length text.now }
@@ -34,11 +48,8 @@ pub(crate) fn word_end(text: &[u8], at: usize) -> usize
     ensures word { Word (take (result - at) (drop at text.now)) }
     ensures ended { Ended (drop result text.now) }
 {
-    let mut end = at;
-    while end < text.len() && !is_parting(text[end]) {
-        end += 1;
-    }
-    end
+    let rest = &text[at..];
+    at + first_parting(rest).unwrap_or(rest.len())
 }
 
 // The line of an offset, from 1, and its byte there, from 0.
@@ -46,16 +57,9 @@ fn locate(text: &[u8], at: usize) -> (usize, usize)
     requires { at ≤ length text.now }
     ensures { Stands text.now at result.0 result.1 }
 {
-    let mut line = 1;
-    let mut byte = 0;
-    for i in 0..at {
-        if text[i] == b'\n' {
-            line += 1;
-            byte = 0;
-        } else {
-            byte += 1;
-        }
-    }
+    let before = &text[..at];
+    let line = 1 + before.iter().filter(|b| **b == b'\n').count();
+    let byte = last_newline(before).map_or(at, |newline| at - newline - 1);
     (line, byte)
 }
 

@@ -1,12 +1,117 @@
-ghost use Rattle.std.specs.Prelude.{◌≡◌, ℕ, ◌+◌, ◌<◌, ◌≤◌, [], ◌∷◌, ◌++◌, length, take, drop, decimal};
-ghost use Rattle.std.specs.Fmt.{signed_decimal};
+ghost use Rattle.std.specs.Prelude.{◌≡◌, ◌+◌, ◌≤◌, ◌++◌, length, drop, IfOk};
 ghost use Rattle.host.specs.Names.{name_bytes};
-ghost use Rattle.table_text.specs.Lines.{kind_text, place_text, key_text, value_text, ending, word, ended, line_text, row_text, text_of_table};
+ghost use Rattle.arrayvec.specs.ArrayVec.{array_vec_len};
+ghost use Rattle.table_text.specs.Lines.{kind_text, place_text, value_text, ended, line_text, row_text, text_of_table};
 ghost use Rattle.table_text.specs.Puts.{Puts, Writes};
 
 use crate::lines::{Key, Line, ORDER};
-use crate::numerals::{put_integer, put_natural};
-use host::{Host, NONE, Refusal, Row, row_at, unpack_name};
+use arrayvec::ArrayVec;
+use host::{
+    COMPONENT, Host, NONE, PARAMETER, PROVIDED, REQUIRED, Refusal, Row, row_at, unpack_name,
+};
+use itoa::{Buffer, Integer};
+use std::alloc::{AllocError, Global};
+
+/// The text of a value: a name, a number or a word of ours.
+type ValueText = ArrayVec<u8, 11>;
+
+/// The text of a line: nine words, none with its end longer than 18 bytes.
+type LineText = ArrayVec<u8, 162>;
+
+fn short(bytes: &[u8]) -> ValueText
+    requires { length bytes.now ≤ 11 }
+    ensures { result.items ≡ bytes.now }
+{
+    ValueText::try_from(bytes).unwrap()
+}
+
+fn decimal<I: Integer>(n: I) -> ValueText
+    requires { I.MAX_STR_LEN ≤ 11 }
+    ensures { result.items ≡ I.text n }
+{
+    short(Buffer::new().format(n).as_bytes())
+}
+
+fn kind_text(kind: u8) -> ValueText
+    ensures { result.items ≡ kind_text kind }
+{
+    match kind {
+        COMPONENT => short(b"comp"),
+        PROVIDED => short(b"prov"),
+        REQUIRED => short(b"req"),
+        PARAMETER => short(b"par"),
+        _ => decimal(kind),
+    }
+}
+
+// An owner or a link.
+fn place_text(place: u8) -> ValueText
+    ensures { result.items ≡ place_text place }
+{
+    match place {
+        NONE => short(b"none"),
+        _ => decimal(place),
+    }
+}
+
+fn value_text(line: Line, key: Key) -> ValueText
+    ensures { result.items ≡ value_text key line }
+{
+    match key {
+        Key::Place => decimal(line.place),
+        Key::Kind => kind_text(line.row.kind),
+        Key::Name => short(unpack_name(line.row.name).as_slice()),
+        Key::Owner => place_text(line.row.owner),
+        Key::Link => place_text(line.row.link),
+        Key::Up => decimal(line.row.up),
+        Key::Lo => decimal(line.row.lo),
+        Key::Hi => decimal(line.row.hi),
+        Key::Value => decimal(line.row.value),
+    }
+}
+
+// Appends a word and what ends it.
+#[tactic(auto, unfolding(crate::specs::Lines::word))]
+fn push_word(text: &mut LineText, line: Line, key: Key)
+    requires { array_vec_len text.old + 18 ≤ 162 }
+    ensures text { text.new.items ≡ text.old.items ++ ended line key }
+    ensures bound { array_vec_len text.new ≤ array_vec_len text.old + 18 }
+{
+    text.try_extend_from_slice(key.text()).unwrap();
+    text.try_extend_from_slice(&value_text(line, key)).unwrap();
+    text.push(key.ending());
+}
+
+fn spell(line: Line) -> LineText
+    ensures { result.items ≡ line_text line }
+{
+    let mut text = LineText::new();
+    for key in ORDER {
+        push_word(&mut text, line, key);
+    }
+    text
+}
+
+// The text of a row at its place: nothing if it is not filled.
+fn spell_row(place: u8, row: Row) -> LineText
+    ensures { result.items ≡ row_text place row }
+{
+    if row.is_filled() {
+        spell(Line { place, row })
+    } else {
+        LineText::new()
+    }
+}
+
+fn text_length<H: Host>(host: &H) -> usize
+    ensures { result ≡ length (text_of_table (H.Host.rows host.now)) }
+{
+    let mut sum = 0;
+    for place in 0..host.capacity() {
+        sum += spell_row(place, row_at(host, place)).len();
+    }
+    sum
+}
 
 fn put_bytes(buf: &mut [u8], at: usize, bytes: &[u8]) -> usize
     requires { at + length bytes.now ≤ length buf.old }
@@ -16,110 +121,6 @@ fn put_bytes(buf: &mut [u8], at: usize, bytes: &[u8]) -> usize
     let end = at + bytes.len();
     buf[at..end].copy_from_slice(bytes);
     end
-}
-
-fn put_kind(buf: &mut [u8], at: usize, kind: u8) -> usize
-    requires { at + 10 ≤ length buf.old }
-    ensures puts { Puts buf.old at (kind_text kind) buf.new result }
-    ensures bound { result ≤ at + 10 }
-{
-    match kind {
-        1 => put_bytes(buf, at, b"comp"),
-        2 => put_bytes(buf, at, b"prov"),
-        3 => put_bytes(buf, at, b"req"),
-        4 => put_bytes(buf, at, b"par"),
-        _ => put_natural(buf, at, kind as u32),
-    }
-}
-
-fn put_name(buf: &mut [u8], at: usize, name: u64) -> usize
-    requires { at + 8 ≤ length buf.old }
-    ensures puts { Puts buf.old at (name_bytes name) buf.new result }
-    ensures bound { result ≤ at + 8 }
-{
-    let (bytes, len) = unpack_name(name);
-    put_bytes(buf, at, &bytes[0..len])
-}
-
-// An owner or a link.
-fn put_place(buf: &mut [u8], at: usize, place: u8) -> usize
-    requires { at + 10 ≤ length buf.old }
-    ensures puts { Puts buf.old at (place_text place) buf.new result }
-    ensures bound { result ≤ at + 10 }
-{
-    if place == NONE {
-        put_bytes(buf, at, b"none")
-    } else {
-        put_natural(buf, at, place as u32)
-    }
-}
-
-fn put_value(buf: &mut [u8], at: usize, line: Line, key: Key) -> usize
-    requires { at + 11 ≤ length buf.old }
-    ensures puts { Puts buf.old at (value_text key line) buf.new result }
-    ensures bound { result ≤ at + 11 }
-{
-    match key {
-        Key::Place => put_natural(buf, at, line.place as u32),
-        Key::Kind => put_kind(buf, at, line.row.kind),
-        Key::Name => put_name(buf, at, line.row.name),
-        Key::Owner => put_place(buf, at, line.row.owner),
-        Key::Link => put_place(buf, at, line.row.link),
-        Key::Up => put_natural(buf, at, line.row.up),
-        Key::Lo => put_integer(buf, at, line.row.lo),
-        Key::Hi => put_integer(buf, at, line.row.hi),
-        Key::Value => put_integer(buf, at, line.row.value),
-    }
-}
-
-// A word and what ends it.
-fn put_word(buf: &mut [u8], at: usize, line: Line, key: Key) -> usize
-    requires { at + 18 ≤ length buf.old }
-    ensures puts { Puts buf.old at (ended line key) buf.new result }
-    ensures bound { result ≤ at + 18 }
-{
-    let value_at = put_bytes(buf, at, key.text());
-    let end = put_value(buf, value_at, line, key);
-    buf[end] = key.ending();
-    end + 1
-}
-
-// The text of a line, in an array of its own, and its length: nine words, none with its end longer than 18 bytes.
-fn spell(line: Line) -> ([u8; 162], usize)
-    ensures room { length result.0 ≡ 162 }
-    ensures within { result.1 ≤ 162 }
-    ensures text { take result.1 result.0 ≡ line_text line }
-{
-    let mut bytes = [0; 162];
-    let mut at = 0;
-    for key in ORDER {
-        at = put_word(&mut bytes, at, line, key);
-    }
-    (bytes, at)
-}
-
-// The text of a row at its place: nothing if it is not filled.
-fn spell_row(place: u8, row: Row) -> ([u8; 162], usize)
-    ensures room { length result.0 ≡ 162 }
-    ensures within { result.1 ≤ 162 }
-    ensures text { take result.1 result.0 ≡ row_text place row }
-{
-    if row.is_filled() {
-        spell(Line { place, row })
-    } else {
-        ([0; 162], 0)
-    }
-}
-
-fn text_length<H: Host>(host: &H) -> usize
-    ensures { result ≡ length (text_of_table (H.Host.rows host.now)) }
-{
-    let mut sum = 0;
-    for place in 0..host.capacity() {
-        let (_, len) = spell_row(place, row_at(host, place));
-        sum += len;
-    }
-    sum
 }
 
 /// Writes the rows of a host as table text into a buffer, and answers the text's length; bytes behind it stay.
@@ -132,8 +133,40 @@ pub fn write_table<H: Host>(host: &H, buf: &mut [u8]) -> Result<usize, Refusal>
     }
     let mut at = 0;
     for place in 0..host.capacity() {
-        let (bytes, len) = spell_row(place, row_at(host, place));
-        at = put_bytes(buf, at, &bytes[0..len]);
+        at = put_bytes(buf, at, &spell_row(place, row_at(host, place)));
     }
     Ok(at)
+}
+
+/// The rows of a host as table text, in memory of its own.
+pub fn text_of_table<H: Host>(heap: Global, host: &H) -> Result<Vec<u8>, AllocError>
+    ensures { IfOk result (λ text. text.items ≡ text_of_table (H.Host.rows host.now)) }
+{
+    let mut text = Vec::new(heap);
+    for place in 0..host.capacity() {
+        text.extend_from_slice(&spell_row(place, row_at(host, place)))?;
+    }
+    Ok(text)
+}
+
+#[cfg(test)]
+mod tests {
+    use super::*;
+    use host::{EMPTY, Plain};
+    use std::test::Fail;
+
+    #[test]
+    fn writes_into_memory_of_its_own(rt: HostRuntime) -> Result<(), Fail> {
+        let mut host = Plain::new();
+        let row = Row {
+            kind: COMPONENT,
+            name: 0x6100_0000_0000_0000,
+            ..EMPTY
+        };
+        assert_eq!(rt; host.write(7, row), Ok(()));
+        let text = text_of_table(rt.alloc(), &host)?;
+        let line = b"place=7 kind=comp name=a owner=none link=none up=0 lo=0 hi=0 value=0\n";
+        assert_eq!(rt; text.as_slice(), line.as_slice());
+        Ok(())
+    }
 }

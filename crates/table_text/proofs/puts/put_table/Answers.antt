@@ -1,6 +1,7 @@
-use Rattle.std.proofs.Common.{◌≡◌, ◌++◌, map, length, set, sym, refl, ap, ◌∙◌, subst, true≢false, arith}
+use Rattle.std.proofs.Common.{◌≡◌, ◌++◌, map, length, set, sym, refl, ap, ◌∙◌, subst, true≢false, arith, drop, length-append, length-drop}
 use Rattle.std.specs.List.{range_with_len}
 use Rattle.std.proofs.lemmas.List.{append-nil, drop_all}
+use Rattle.std.proofs.lemmas.List.FromFn.{length-map-range_with_len}
 use Rattle.host.specs.Tables.{row_at}
 use Rattle.table_text.specs.Lines.{text_of_table}
 use Rattle.table_text.specs.Placed.{Within}
@@ -39,3 +40,11 @@ returns g c =
       text = ap text_of_table rows ∙ text_placed t (length u) within;
       held = c.loop-place.invariant.1;
     }
+
+pub returns-in_err-write-clause-rows : goal.returns-in_err-write-clause-rows
+returns-in_err-write-clause-rows g c =
+    let t = c.args.table.now in
+    let u = g.H.Host.rows c.args.host.now in
+    let i = c.loop-place.place in
+    let n = ap length c.loop-place.invariant.0 ∙ length-append (map (row_at t) (range_with_len 0 i)) (drop i u) in
+    absurd (omega (arith, c.in_err-write.ensures.told.0, c.capacity-capacity.ensures, n, length-map-range_with_len (row_at t) 0 i, length-drop i u))

@@ -9,8 +9,8 @@ use Rattle.table_text.proofs.reads.read_line.Goals as goal
 
 pub returns-then-next-gt254 : goal.returns-then-next-gt254
 returns-then-next-gt254 c =
-    let w = c.word_end-end.ensures in
-    none_left c.args.next c.args.rest.now c.word_end-end.result (omega arith) w.within.1 w.word w.ended
+    let w = c.word_end.ensures in
+    none_left c.args.next c.args.rest.now c.word_end.result (omega arith) w.within.1 w.word w.ended
 
 pub read_word-requires : goal.read_word-requires
 read_word-requires c = record {
@@ -21,8 +21,8 @@ read_word-requires c = record {
 
 pub loop-key-preserved : goal.loop-key-preserved
 loop-key-preserved c =
-    let r = c.in-Ok.ensures in
-    let l = c.in-Ok.taken in
+    let r = c.in_ok-line.ensures in
+    let l = c.in_ok-line.field-0-0 in
     let j = c.loop-key.key-index in
     (r.0, r.1, r.2 ∙ ap (λ s. s ++ ended l (get_or order j Place)) (before_at l j (omega arith)) ∙ sym (joined_more (ended l) order j Place (omega arith)))
 

@@ -8,9 +8,10 @@ use Rattle.table_text.proofs.writes.spell.Goals as goal
 
 pub loop-key-preserved : goal.loop-key-preserved
 loop-key-preserved c =
-    let w = c.put_word-at.ensures in
-    (omega arith, omega arith, w.puts.written ∙ ap (λ f. f ++ ended c.args.line (get_or order c.loop-key.key-index Place)) c.loop-key.invariant.2 ∙ sym (joined_more (ended c.args.line) order c.loop-key.key-index Place (omega arith)))
+    let w = c.push_word.ensures in
+    let i = c.loop-key.invariant in
+    (omega (arith, w.bound, i.0), w.text ∙ ap (λ f. f ++ ended c.args.line (get_or order c.loop-key.key-index Place)) i.1 ∙ sym (joined_more (ended c.args.line) order c.loop-key.key-index Place (omega arith)))
 
 pub returns : goal.returns
 unfolding line_text
-returns c = record { room = c.loop-key.invariant.0; within = omega arith; text = c.loop-key.invariant.2 ∙ ap (flat_map (ended c.args.line)) (take_all c.loop-key.key-index order (omega arith)) }
+returns c = c.loop-key.invariant.1 ∙ ap (flat_map (ended c.args.line)) (take_all c.loop-key.key-index order (omega arith))
