@@ -5,7 +5,7 @@
 use ftpl::books::Book;
 use ftpl::formulas::{Core, Event, EventKind, EventList, Formula, Leaf, Leaves, Slot, Trace};
 use ftpl::properties::{Binder, Property, Quantifier, Test, Tests, Variable, VariableKind};
-use host::{COMPONENT, Host, NONE, PARAMETER, Plain, Row};
+use host::{COMPONENT, EMPTY, Host, PARAMETER, Plain, Row};
 use monitor::{begin, read, record};
 use scale::{Beside, Distance};
 use std::alloc::{AllocError, Global};
@@ -25,12 +25,7 @@ fn component(name: u64) -> Row {
     Row {
         kind: COMPONENT,
         name,
-        owner: NONE,
-        link: NONE,
-        up: 0,
-        lo: 0,
-        hi: 0,
-        value: 0,
+        ..EMPTY
     }
 }
 
@@ -39,11 +34,9 @@ fn parameter(name: u64, owner: u8, value: i32) -> Row {
         kind: PARAMETER,
         name,
         owner,
-        link: NONE,
-        up: 0,
-        lo: 0,
         hi: 4096,
         value,
+        ..EMPTY
     }
 }
 
@@ -137,28 +130,22 @@ fn book(heap: Global) -> Result<Book, AllocError> {
     })
 }
 
+const OPENED: Event = Event {
+    operation: 5,
+    kind: EventKind::Called,
+};
+
+const ENDED: Event = Event {
+    operation: 5,
+    kind: EventKind::Normal,
+};
+
 // an operation opened and ended, over and over, with another length each time
 fn go_on(host: &mut Plain, book: &Book, rounds: u32, board: &mut [Beside<bool, Distance>]) {
     for k in 0..rounds {
-        let _ = record(
-            host,
-            book,
-            Event {
-                operation: 5,
-                kind: EventKind::Called,
-            },
-            board,
-        );
+        let _ = record(host, book, OPENED, board);
         let _ = host.write(2, parameter(LEN, 0, (k % 997) as i32));
-        let _ = record(
-            host,
-            book,
-            Event {
-                operation: 5,
-                kind: EventKind::Normal,
-            },
-            board,
-        );
+        let _ = record(host, book, ENDED, board);
     }
 }
 
@@ -181,7 +168,7 @@ fn main(rt: HostRuntime) -> io::Result<()> {
             println!(rt; "tenth {tenth}: {rate} positions a second")?;
         }
     }
-    for number in 1..5u8 {
+    for number in 1..=4u8 {
         if let Ok(value) = read(&watched, number, &board) {
             let yes = value.first;
             let far = value.second.value();

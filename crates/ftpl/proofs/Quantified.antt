@@ -16,10 +16,6 @@ module _ {V : Type 0} (s : Ops V) (q : Quantifier) (test : ℕ → Bool) (f : �
   Going n i total = pair_by s q total (over i (n - i)) ≡ over 0 n
 
 module _ {V : Type 0} {s : Ops V} (p : Laws s) where
-  pair_nothing : (q : Quantifier) (x : V) → pair_by s q (joined_by s q []) x ≡ x
-  pair_nothing ForAll x = p.top_both x
-  pair_nothing Exists x = p.bottom_either x
-
   nothing_pair : (q : Quantifier) (x : V) → pair_by s q x (joined_by s q []) ≡ x
   nothing_pair ForAll x = p.both_comm x s.top ∙ p.top_both x
   nothing_pair Exists x = p.either_comm x s.bottom ∙ p.bottom_either x
@@ -29,11 +25,6 @@ module _ {V : Type 0} {s : Ops V} (p : Laws s) where
   pair_more Exists x y r = p.either_assoc x y (some s r)
 
   module _ (q : Quantifier) (test : ℕ → Bool) (f : ℕ → V) (n : ℕ) where
-    pub going_first : (total : V) → total ≡ joined_by s q [] → Going s q test f n 0 total
-    going_first total e =
-        let size : n - 0 ≡ n = omega arith in
-        ap (λ u. pair_by s q u (over s q test f 0 (n - 0))) e ∙ pair_nothing q (over s q test f 0 (n - 0)) ∙ ap (over s q test f 0) size
-
     here : (b : Bool) (i m : ℕ) → test i ≡ b → over s q test f i (suc m) ≡ joined_by s q (map f (cond b (i ∷ those test (numbers (suc i) m)) (those test (numbers (suc i) m))))
     here b i m e = ap (λ c. joined_by s q (map f (cond c (i ∷ those test (numbers (suc i) m)) (those test (numbers (suc i) m))))) e
 

@@ -1,5 +1,5 @@
 -- The value of a property on a table, in any scale.
-use Rattle.std.specs.Prelude.{◌≡◌, ℕ, ◌<◌, Bool, true, cond, List, [], ◌∷◌, map, length, take, ℤ, pos, negsuc, ◌-ℤ◌, Some, None, Option, ◌==◌, nat_eq, slice_index, slice_index_or}
+use Rattle.std.specs.Prelude.{◌≡◌, ℕ, ◌<◌, Bool, true, not, cond, List, ◌∷◌, map, find, length, take, ℤ, pos, negsuc, ◌-ℤ◌, Some, None, Option, ◌==◌, nat_eq, slice_index, slice_index_or}
 use Rattle.std.specs.Int.{int_min, int_max}
 use Rattle.scale.specs.Laws.{Ops}
 use Rattle.scale.specs.YesNo.{yes_no}
@@ -90,8 +90,7 @@ module _ {V : Type 0} (s : Ops V) (t : List Row) where
 
 -- the first of the numbered properties that is no on the table, read in yes and no
 abbrev pub first_broken : List Row → List Property → List ℕ → Option ℕ
-first_broken t ps [] = None
-first_broken t ps (n ∷ ns) = cond (numbered_value yes_no t ps n) (first_broken t ps ns) (Some n)
+first_broken t ps ns = find (λ n. not (numbered_value yes_no t ps n)) ns
 
 -- every one of the numbered properties is yes on the table
 abbrev pub Met : List Row → List Property → List ℕ → Type 0

@@ -17,15 +17,12 @@ fn mask_of(list: EventList, kind: EventKind) -> u64
 fn is_listed(mask: u64, operation: u8) -> bool
     ensures { result ≡ listed mask operation }
 {
-    operation >= 1 && operation <= 63 && (mask >> operation) % 2 == 1
+    (1..=63).contains(&operation) && (mask >> operation) % 2 == 1
 }
 
 /// Whether one of the listed events is what happened.
 pub fn holds(list: EventList, event: Option<Event>) -> bool
     ensures { result ≡ holds_at list event }
 {
-    match event {
-        None => false,
-        Some(happened) => is_listed(mask_of(list, happened.kind), happened.operation),
-    }
+    event.is_some_and(|happened| is_listed(mask_of(list, happened.kind), happened.operation))
 }

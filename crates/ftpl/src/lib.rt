@@ -5,6 +5,7 @@ pub mod books;
 pub mod edges;
 pub mod events;
 pub mod formulas;
+pub mod numbers;
 pub mod properties;
 #[cfg(test)]
 mod tests;

@@ -3,7 +3,7 @@ use crate::events::holds;
 use crate::formulas::{Event, EventKind, EventList};
 use crate::properties::{Binder, Property, Quantifier, Test, Tests, Variable, VariableKind};
 use crate::values::property_value;
-use host::{COMPONENT, EMPTY, Host, NONE, PARAMETER, Plain, Refusal, Row};
+use host::{COMPONENT, EMPTY, Host, PARAMETER, Plain, Row};
 use scale::Distance;
 use std::alloc::{AllocError, Global};
 use std::test::Fail;
@@ -18,11 +18,9 @@ fn parameter(name: u64, value: i32) -> Row {
         kind: PARAMETER,
         name,
         owner: 0,
-        link: NONE,
-        up: 0,
-        lo: 0,
         hi: 4096,
         value,
+        ..EMPTY
     }
 }
 
@@ -32,12 +30,8 @@ fn table() -> Plain {
     let component = Row {
         kind: COMPONENT,
         name: letter(b'c'),
-        owner: NONE,
-        link: NONE,
         up: 1,
-        lo: 0,
-        hi: 0,
-        value: 0,
+        ..EMPTY
     };
     let _ = host.write(0, component);
     let _ = host.write(1, parameter(letter(b'a'), 5));

@@ -1,19 +1,35 @@
 // What a property is worth on a table.
-ghost use Rattle.std.specs.Prelude.{◌≡◌, [], ◌∷◌, pos, negsuc, ◌≤ℤ◌, ◌==◌};
+ghost use Rattle.std.specs.Prelude.{◌≡◌, ℕ, ◌<◌, [], ◌∷◌, pos, negsuc, ◌≤ℤ◌, ◌==◌};
 ghost use Rattle.host.specs.Tables.{row_at};
 ghost use Rattle.ftpl.specs.Properties.{kind_number, place_of, margin as margin_of, verdict as verdict_of, test_value, tests_value, joined_by, pair_by, quantified, value_at, property_value, numbered_value, first_broken};
 
+use crate::numbers::numbered;
 use crate::properties::{Binder, Property, Quantifier, Test, Tests, Variable, VariableKind};
-use host::{Host, NONE, row_at, same_name};
+use host::{Host, NONE, Row, row_at, same_name};
 use scale::Scale;
 
-fn place_of(v: u8, w: u8, variable: Variable) -> u8
-    ensures { result ≡ place_of v w variable }
-{
-    match variable {
-        Variable::Outer => v,
-        Variable::Inner => w,
+/// The places that the two variables of a property stand for.
+#[derive(Clone, Copy)]
+struct Places {
+    v: u8,
+    w: u8,
+}
+
+impl Places {
+    fn of(self, variable: Variable) -> u8
+        ensures { result ≡ place_of self.v self.w variable }
+    {
+        match variable {
+            Variable::Outer => self.v,
+            Variable::Inner => self.w,
+        }
     }
+}
+
+fn row_of<H: Host>(host: &H, places: Places, variable: Variable) -> Row
+    ensures { result ≡ row_at (H.Host.rows host.now) (place_of places.v places.w variable) }
+{
+    row_at(host, places.of(variable))
 }
 
 fn verdict<S: Scale>(b: bool) -> S
@@ -36,61 +52,50 @@ fn at_most<S: Scale>(left: i32, right: i32) -> S
     S::grade(margin(left, right))
 }
 
-fn test_value<H: Host, S: Scale>(host: &H, v: u8, w: u8, test: Test) -> S
-    ensures { result ≡ test_value S.Scale.ops (H.Host.rows host.now) v w test }
+fn test_value<H: Host, S: Scale>(host: &H, places: Places, test: Test) -> S
+    ensures { result ≡ test_value S.Scale.ops (H.Host.rows host.now) places.v places.w test }
 {
     match test {
         Test::Named { subject, name } => verdict(same_name(
-            row_at(host, place_of(v, w, subject)).name,
+            row_of(host, places, subject).name,
             name,
         )),
         Test::OwnerNamed { subject, name } => {
-            let owner = row_at(host, place_of(v, w, subject)).owner;
+            let owner = row_of(host, places, subject).owner;
             verdict(same_name(row_at(host, owner).name, name))
         }
-        Test::Bound { from, to } => verdict(
-            row_at(host, place_of(v, w, from)).link == place_of(v, w, to),
-        ),
+        Test::Bound { from, to } => verdict(row_of(host, places, from).link == places.of(to)),
         Test::Child { child, owner } => verdict(
-            row_at(host, place_of(v, w, child)).owner == place_of(v, w, owner),
+            row_of(host, places, child).owner == places.of(owner),
         ),
-        Test::Same { left, right } => verdict(place_of(v, w, left) == place_of(v, w, right)),
-        Test::Up { subject } => verdict(row_at(host, place_of(v, w, subject)).up == 1),
-        Test::AtMostNumber { left, number } => at_most(
-            row_at(host, place_of(v, w, left)).value,
-            number,
-        ),
+        Test::Same { left, right } => verdict(places.of(left) == places.of(right)),
+        Test::Up { subject } => verdict(row_of(host, places, subject).up == 1),
+        Test::AtMostNumber { left, number } => at_most(row_of(host, places, left).value, number),
         Test::AtMost { left, right } => {
-            let high = row_at(host, place_of(v, w, right)).value;
-            at_most(row_at(host, place_of(v, w, left)).value, high)
+            let high = row_of(host, places, right).value;
+            at_most(row_of(host, places, left).value, high)
         }
     }
 }
 
-fn tests_value<H: Host, S: Scale>(host: &H, v: u8, w: u8, tests: &Tests) -> S
-    ensures { result ≡ tests_value S.Scale.ops (H.Host.rows host.now) v w tests.now }
+fn tests_value<H: Host, S: Scale>(host: &H, places: Places, tests: &Tests) -> S
+    ensures { result ≡ tests_value S.Scale.ops (H.Host.rows host.now) places.v places.w tests.now }
 {
     match tests {
-        Tests::Single(test) => test_value(host, v, w, *test),
+        Tests::Single(test) => test_value(host, places, *test),
         Tests::Not(part) => {
-            let value: S = tests_value(host, v, w, part);
+            let value: S = tests_value(host, places, part);
             value.turn()
         }
         Tests::Both(left, right) => {
-            let value: S = tests_value(host, v, w, left);
-            value.both(tests_value(host, v, w, right))
+            let value: S = tests_value(host, places, left);
+            value.both(tests_value(host, places, right))
         }
         Tests::Either(left, right) => {
-            let value: S = tests_value(host, v, w, left);
-            value.either(tests_value(host, v, w, right))
+            let value: S = tests_value(host, places, left);
+            value.either(tests_value(host, places, right))
         }
     }
-}
-
-fn is_of_kind<H: Host>(host: &H, place: u8, kind: VariableKind) -> bool
-    ensures { result ≡ ((row_at (H.Host.rows host.now) place).kind == kind_number kind) }
-{
-    row_at(host, place).kind == kind as u8
 }
 
 /// The value of no row.
@@ -113,13 +118,21 @@ fn joined<S: Scale>(quantifier: Quantifier, total: S, more: S) -> S
     }
 }
 
-fn value_over<H: Host, S: Scale>(host: &H, binder: Binder, v: u8, tests: &Tests) -> S
-    ensures { result ≡ quantified S.Scale.ops (H.Host.rows host.now) binder (λ w. tests_value S.Scale.ops (H.Host.rows host.now) v w tests.now) }
+fn is_of_kind<H: Host>(host: &H, place: u8, kind: VariableKind) -> bool
+    ensures { result ≡ ((row_at (H.Host.rows host.now) place).kind == kind_number kind) }
 {
-    let mut total: S = nothing(binder.quantifier);
-    for w in 0..host.capacity() {
-        if is_of_kind(host, w, binder.kind) {
-            total = joined(binder.quantifier, total, tests_value(host, v, w, tests));
+    row_at(host, place).kind == kind as u8
+}
+
+/// The values at the places of the rows of the binder's kind, joined.
+fn quantified<H: Host, S: Scale, F: Fn(u8) -> S>(host: &H, binder: Binder, value: F) -> S
+    requires { F.IsAlwaysCallable value }
+    ensures { (f : ℕ → S) → ((p : ℕ) (x : S) → p < 256 → F.post value p x → x ≡ f p) → result ≡ quantified S.Scale.ops (H.Host.rows host.now) binder f }
+{
+    let mut total = nothing(binder.quantifier);
+    for place in 0..host.capacity() {
+        if is_of_kind(host, place, binder.kind) {
+            total = joined(binder.quantifier, total, value(place));
         }
     }
     total
@@ -130,8 +143,12 @@ fn value_at<H: Host, S: Scale>(host: &H, property: &Property, v: u8) -> S
 {
     match property.inner {
         // w stands for no place
-        None => tests_value(host, v, NONE, &property.tests),
-        Some(binder) => value_over(host, binder, v, &property.tests),
+        None => tests_value(host, Places { v, w: NONE }, &property.tests),
+        Some(binder) => quantified(
+            host,
+            binder,
+            |w| tests_value(host, Places { v, w }, &property.tests),
+        ),
     }
 }
 
@@ -139,25 +156,17 @@ fn value_at<H: Host, S: Scale>(host: &H, property: &Property, v: u8) -> S
 pub fn property_value<H: Host, S: Scale>(host: &H, property: &Property) -> S
     ensures { result ≡ property_value S.Scale.ops (H.Host.rows host.now) property.now }
 {
-    let binder = property.outer;
-    let mut total: S = nothing(binder.quantifier);
-    for v in 0..host.capacity() {
-        if is_of_kind(host, v, binder.kind) {
-            total = joined(binder.quantifier, total, value_at(host, property, v));
-        }
-    }
-    total
+    quantified(host, property.outer, |v| value_at(host, property, v))
 }
 
 /// The value of the property with this number, counted from 1; bottom where none is listed.
 pub fn numbered_value<H: Host, S: Scale>(host: &H, properties: &[Property], number: u8) -> S
     ensures { result ≡ numbered_value S.Scale.ops (H.Host.rows host.now) properties.now number }
 {
-    let count = number as usize;
-    if count >= 1 && count <= 64 && count <= properties.len() {
-        property_value(host, &properties[count - 1])
-    } else {
-        S::bottom()
+    let listed = &properties[..properties.len().min(64)];
+    match numbered(listed, number) {
+        Some(property) => property_value(host, property),
+        None => S::bottom(),
     }
 }
 
@@ -165,10 +174,5 @@ pub fn numbered_value<H: Host, S: Scale>(host: &H, properties: &[Property], numb
 pub fn broken_condition<H: Host>(host: &H, properties: &[Property], conditions: &[u8]) -> Option<u8>
     ensures { result ≡ first_broken (H.Host.rows host.now) properties.now conditions.now }
 {
-    for number in conditions {
-        if !numbered_value::<_, bool>(host, properties, *number) {
-            return Some(*number);
-        }
-    }
-    None
+    conditions.iter().copied().find(|number| !numbered_value::<_, bool>(host, properties, *number))
 }

@@ -3,6 +3,8 @@ pub mod Linear
 pub mod Single
 pub mod Whole
 pub mod Masks
+pub mod Arrays
+pub mod Sizes
 pub mod Traces
 pub mod Numbered
 pub mod Made

@@ -1,10 +1,13 @@
 -- The parts of a step, as the code makes them.
-use Rattle.std.proofs.Common.{◌≡◌, ℕ, ◌<◌, Bool, true, cond, ◌≢◌, List, length, get_or, set, sym, ap, ◌∙◌, ap₂, arith, get_or-set_other, get_or-set_same}
+use Rattle.std.proofs.Common.{◌≡◌, ℕ, ◌+◌, ◌-◌, ◌≤◌, Bool, true, cond, ◌≢◌, List, ◌++◌, length, get_or, set, drop, replicate, sym, ap, ◌∙◌, ap₂, arith, get_or-set_other}
+use Rattle.std.proofs.lemmas.List.{get_or-replicate, get_or-append_right, get_or-drop}
 use mathlib.Core.Path.{fun_ext}
 use Rattle.scale.specs.Laws.{Ops}
-use Rattle.monitor.specs.Monitor.{Set, Cell, clause, kept, none, absorb, lengthen, happen_row, happen_kept, launch_row, go_row, go_with, read_row, held, passed, begin, step_with}
-use Rattle.monitor.specs.Layout.{mask, clauses, cells_of, viewed, Locked}
+use Rattle.monitor.specs.Monitor.{Set, Cell, clause, kept, none, without, grown, absorb, lengthen, happen_row, happen_kept, launch_row, go_row, go_with, read_row, held, passed, begin, step_with}
+use Rattle.monitor.specs.Layout.{mask, clauses, cells_of, viewed, cells_held, state_of}
+use Rattle.monitor.specs.declared.steps.Held.{Held}
 use Rattle.ftpl.specs.declared.formulas.EventList.{EventList}
+use Rattle.ftpl.specs.declared.formulas.Slot.{Slot}
 use Rattle.ftpl.specs.declared.formulas.Slot.TheVariants.{First, Second, Third, Fourth}
 use Rattle.ftpl.specs.declared.formulas.Leaf.{Leaf}
 use Rattle.ftpl.specs.declared.formulas.PerLeaf.{PerLeaf}
@@ -29,6 +32,9 @@ module _ {V : Type 0} (s : Ops V) where
   pub plain_read : {core : Core} {t : Trace} (w : Set → V) (q : V) {r : V} {a : Set → V} → core ≡ Plain t → r ≡ a none → a ≡ absorb s t w → r ≡ read_row s core w q
   plain_read w q is f g = f ∙ ap (λ (u : Set → V). u none) g ∙ sym (ap (λ k. read_row s k w q) is)
 
+  pub lengthened_here : (j : Slot) (l : Leaf) (v : V) (w : Set → V) (c : Set) {r x y : V} → r ≡ grown s l v x y → x ≡ w c → y ≡ w (without j c) → c j ≡ true → r ≡ lengthen s j l v w c
+  lengthened_here j l v w c e f g hit = e ∙ ap₂ (grown s l v) f g ∙ sym (ap (λ b. cond b (grown s l v (w c) (w (without j c))) (w c)) hit)
+
   pub row_made : (l : PerLeaf Leaf) (c : Core) (h : V) (y : PerLeaf V) (event : EventList → Bool) (w : Set → V) {w₀ w₁ w₂ w₃ w₄ w₅ : Set → V}
       → w₀ ≡ happen_row s c event w
       → w₁ ≡ launch_row s l h w₀
@@ -40,67 +46,61 @@ module _ {V : Type 0} (s : Ops V) where
   row_made l c h y event w e₀ e₁ e₂ e₃ e₄ e₅ =
       e₅ ∙ ap (lengthen s Fourth l.fourth y.fourth) (e₄ ∙ ap (lengthen s Third l.third y.third) (e₃ ∙ ap (lengthen s Second l.second y.second) (e₂ ∙ ap (lengthen s First l.first y.first) (e₁ ∙ ap (launch_row s l h) e₀))))
 
-  -- the row and the value beside it, written to a board b
-  pub cells_made : (l : PerLeaf Leaf) (c : Core) (h : V) (v : PerLeaf V) (event : EventList → Bool) (b e : List V) {q y : V} {w r : Set → V}
-      → 16 < length b
-      → w ≡ clauses s b
-      → y ≡ get_or b 16 s.top
-      → q ≡ happen_kept s c event w y
-      → r ≡ go_row s l c h v event w
-      → clauses s e ≡ r
-      → get_or e 16 s.top ≡ get_or (set b 16 q) 16 s.top
-      → cells_of s e ≡ go_with s l c h v event (cells_of s b)
-  cells_made l c h v event b e {q} {y} {w} {r} long e₁ e₂ e₃ e₄ e₅ e₆ = fun_ext at
+  -- what is held stands on a part of a board
+  pub same_state : (h : Held V) (xs : List V) → clauses s h.clauses.0 ≡ clauses s xs → h.kept ≡ get_or xs 16 s.top → h.fresh ≡ get_or xs 17 s.top → h.one ≡ get_or xs 18 s.top → h.two ≡ get_or xs 19 s.top → h.three ≡ get_or xs 20 s.top → state_of s h ≡ viewed s xs
+  same_state h xs e k f o t u = λ i. record { cells = fun_ext at i; fresh = f i; one = o i; two = t i; three = u i }
     where
-      at : (k : Cell) → cells_of s e k ≡ go_with s l c h v event (cells_of s b) k
-      at (clause i) = ap (λ (u : Set → V). u i) (e₅ ∙ e₄ ∙ ap (go_row s l c h v event) e₁)
-      at kept = e₆ ∙ get_or-set_same b 16 q s.top long ∙ e₃ ∙ ap₂ (happen_kept s c event) e₁ e₂
+      at : (c : Cell) → cells_held s h c ≡ cells_of s xs c
+      at (clause c) = ap (λ (w : Set → V). w c) e
+      at kept = k
 
-  pub state_made : (f : Formula) (v : PerLeaf V) (event : EventList → Bool) (b₀ b₁ b₂ : List V) {fresh one two three h₁ h₂ h₃ o₁ o₂ o₃ : V}
-      → fresh ≡ get_or b₀ 17 s.top → one ≡ get_or b₀ 18 s.top → two ≡ get_or b₀ 19 s.top → three ≡ get_or b₀ 20 s.top
-      → h₁ ≡ passed s f.first event one fresh
-      → h₂ ≡ passed s f.second event two h₁
-      → h₃ ≡ passed s f.third event three h₂
-      → cells_of s b₁ ≡ go_with s f.leaves f.core h₃ v event (cells_of s b₀)
-      → o₁ ≡ held s f.first one fresh → o₂ ≡ held s f.second two h₁ → o₃ ≡ held s f.third three h₂
-      → Locked s b₁ b₂ o₁ o₂ o₃
-      → viewed s b₂ ≡ step_with s f v event (viewed s b₀)
-  state_made f v event b₀ b₁ b₂ {h₃ = h₃} f₁ f₂ f₃ f₄ g₁ g₂ g₃ k l₁ l₂ l₃ m = λ i. record {
-    cells = ((fun_ext keep ∙ k) ∙ ap (λ h. go_with s f.leaves f.core h v event (cells_of s b₀)) third) i;
-    fresh = m.fresh_is i;
-    one = one_is i;
-    two = two_is i;
-    three = three_is i;
-  }
+  -- what is held goes on by a position
+  pub state_made : (f : Formula) (v : PerLeaf V) (event : EventList → Bool) (b h : Held V) {h₁ h₂ h₃ : V}
+      → h₁ ≡ passed s f.first event b.one b.fresh
+      → h₂ ≡ passed s f.second event b.two h₁
+      → h₃ ≡ passed s f.third event b.three h₂
+      → clauses s h.clauses.0 ≡ go_row s f.leaves f.core h₃ v event (clauses s b.clauses.0)
+      → h.kept ≡ happen_kept s f.core event (clauses s b.clauses.0) b.kept
+      → h.fresh ≡ s.top
+      → h.one ≡ held s f.first b.one b.fresh → h.two ≡ held s f.second b.two h₁ → h.three ≡ held s f.third b.three h₂
+      → state_of s h ≡ step_with s f v event (state_of s b)
+  state_made f v event b h {h₃ = h₃} g₁ g₂ g₃ e k l o t u = λ i. record { cells = fun_ext at i; fresh = l i; one = o i; two = two_is i; three = three_is i }
     where
-      keep : (c : Cell) → cells_of s b₂ c ≡ cells_of s b₁ c
-      keep (clause c) = m.below (mask c) (omega (arith, mask_small c))
-      keep kept = m.below 16 (omega arith)
+      last : h₃ ≡ passed s f.third event b.three (passed s f.second event b.two (passed s f.first event b.one b.fresh))
+      last = cc
 
-      third : h₃ ≡ passed s f.third event (get_or b₀ 20 s.top) (passed s f.second event (get_or b₀ 19 s.top) (passed s f.first event (get_or b₀ 18 s.top) (get_or b₀ 17 s.top)))
-      third = cc
+      at : (c : Cell) → cells_held s h c ≡ go_with s f.leaves f.core (passed s f.third event b.three (passed s f.second event b.two (passed s f.first event b.one b.fresh))) v event (cells_held s b) c
+      at (clause c) = ap (λ (w : Set → V). w c) (e ∙ ap (λ x. go_row s f.leaves f.core x v event (clauses s b.clauses.0)) last)
+      at kept = k
 
-      one_is : get_or b₂ 18 s.top ≡ held s f.first (get_or b₀ 18 s.top) (get_or b₀ 17 s.top)
-      one_is = cc m.one_is
+      two_is : h.two ≡ held s f.second b.two (passed s f.first event b.one b.fresh)
+      two_is = cc
 
-      two_is : get_or b₂ 19 s.top ≡ held s f.second (get_or b₀ 19 s.top) (passed s f.first event (get_or b₀ 18 s.top) (get_or b₀ 17 s.top))
-      two_is = cc m.two_is
+      three_is : h.three ≡ held s f.third b.three (passed s f.second event b.two (passed s f.first event b.one b.fresh))
+      three_is = cc
 
-      three_is : get_or b₂ 20 s.top ≡ held s f.third (get_or b₀ 20 s.top) (passed s f.second event (get_or b₀ 19 s.top) (passed s f.first event (get_or b₀ 18 s.top) (get_or b₀ 17 s.top)))
-      three_is = cc m.three_is
-
-  pub begin_made : (b : List V) (u : V) → 17 < length b → ((k : ℕ) → k < 21 → get_or b k s.top ≡ s.top) → u ≡ s.bottom → viewed s (set b 17 u) ≡ begin s
-  begin_made b u long tops e = λ i. record {
-    cells = fun_ext at i;
-    fresh = (get_or-set_same b 17 u s.top long ∙ e) i;
-    one = off 18 (omega arith) (omega arith) i;
-    two = off 19 (omega arith) (omega arith) i;
-    three = off 20 (omega arith) (omega arith) i;
-  }
+  -- what is held before the first position
+  pub begin_made : (h : Held V) (x : V) → h.clauses.0 ≡ replicate 16 x → x ≡ s.top → h.kept ≡ s.top → h.fresh ≡ s.bottom → h.one ≡ s.top → h.two ≡ s.top → h.three ≡ s.top → state_of s h ≡ begin s
+  begin_made h x e t k f o u w = λ i. record { cells = fun_ext at i; fresh = f i; one = o i; two = u i; three = w i }
     where
-      off : (k : ℕ) → k ≢ 17 → k < 21 → get_or (set b 17 u) k s.top ≡ s.top
-      off k ne h = get_or-set_other b 17 k u s.top ne ∙ tops k h
+      at : (c : Cell) → cells_held s h c ≡ s.top
+      at (clause c) = ap (λ xs. clauses s xs c) e ∙ get_or-replicate 16 (mask c) x s.top (mask_small c) ∙ t
+      at kept = k
 
-      at : (c : Cell) → cells_of s (set b 17 u) c ≡ s.top
-      at (clause c) = off (mask c) (omega (arith, mask_small c)) (omega (arith, mask_small c))
-      at kept = off 16 (omega arith) (omega arith)
+  -- a part of a board behind what is stored
+  pub stored_rest : (w old : List V) (k : ℕ) (a b c d e : V) → length w ≡ 16 → 21 ≤ k → get_or (set (set (set (set (set (w ++ drop 16 old) 16 a) 17 b) 18 c) 19 d) 20 e) k s.top ≡ get_or old k s.top
+  stored_rest w old k a b c d e long h =
+      let n₀ : k ≢ 20 = omega arith in
+      let n₁ : k ≢ 19 = omega arith in
+      let n₂ : k ≢ 18 = omega arith in
+      let n₃ : k ≢ 17 = omega arith in
+      let n₄ : k ≢ 16 = omega arith in
+      let on : 16 + (k - 16) ≡ k = omega arith in
+      get_or-set_other _ 20 k _ s.top n₀
+      ∙ get_or-set_other _ 19 k _ s.top n₁
+      ∙ get_or-set_other _ 18 k _ s.top n₂
+      ∙ get_or-set_other _ 17 k _ s.top n₃
+      ∙ get_or-set_other _ 16 k _ s.top n₄
+      ∙ get_or-append_right w (drop 16 old) 16 k s.top long (omega arith)
+      ∙ get_or-drop 16 old (k - 16) s.top
+      ∙ ap (λ i. get_or old i s.top) on

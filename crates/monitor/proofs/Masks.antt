@@ -1,12 +1,10 @@
 -- Sets of leaves and their numbers, by computed tests.
-use Rattle.std.proofs.Common.{◌≡◌, ℕ, zero, suc, ◌+◌, ◌-◌, ◌<◌, ◌≤◌, Bool, true, false, cond, ◌&&◌, eqb, ◌≢◌, List, length, get_or, set, refl, ap, ◌∙◌, inl, inr, arith, length-set, get_or-set_other, get_or-set_same, below_more}
+use Rattle.std.proofs.Common.{◌≡◌, ℕ, zero, suc, ◌-◌, ◌<◌, ◌≤◌, Bool, true, false, cond, ◌&&◌, eqb, List, get_or, bit_and, bit_or, sym, refl, ap, ◌∙◌, inl, inr, arith}
 use mathlib.Core.Path.{fun_ext}
 use Rattle.std.proofs.lemmas.Bool.{and_parts, eqb-true, cases_lt}
 use Rattle.scale.specs.Laws.{Ops}
 use Rattle.monitor.specs.Monitor.{Set, with, without}
 use Rattle.monitor.specs.Layout.{weight, mask, set_of, clauses}
-use Rattle.ftpl.specs.declared.formulas.Trace.{Trace}
-use Rattle.ftpl.specs.declared.formulas.Trace.TheVariants.{At, Both', Either'}
 use Rattle.ftpl.specs.declared.formulas.Slot.{Slot}
 use Rattle.ftpl.specs.declared.formulas.Slot.TheVariants.{First, Second, Third, Fourth}
 
@@ -24,7 +22,7 @@ pub mask_set_of : (k : ℕ) → k < 16 → mask (set_of k) ≡ k
 mask_set_of k h = eqb-true (mask (set_of k)) k (check 16 (λ i. eqb (mask (set_of i)) i) refl k h)
 
 with_test : Slot → ℕ → Bool
-with_test j k = eqb (mask (with j (set_of k))) (cond (set_of k j) k (k + weight j))
+with_test j k = eqb (mask (with j (set_of k))) (bit_or k (weight j))
 
 with_all : (j : Slot) → upto 16 (with_test j) ≡ true
 unfolding with_test
@@ -33,12 +31,12 @@ with_all Second = refl
 with_all Third = refl
 with_all Fourth = refl
 
-pub mask_with : (j : Slot) (k : ℕ) → k < 16 → mask (with j (set_of k)) ≡ cond (set_of k j) k (k + weight j)
+mask_with : (j : Slot) (k : ℕ) → k < 16 → mask (with j (set_of k)) ≡ bit_or k (weight j)
 unfolding with_test
-mask_with j k h = eqb-true (mask (with j (set_of k))) (cond (set_of k j) k (k + weight j)) (check 16 (with_test j) (with_all j) k h)
+mask_with j k h = eqb-true (mask (with j (set_of k))) (bit_or k (weight j)) (check 16 (with_test j) (with_all j) k h)
 
 without_test : Slot → ℕ → Bool
-without_test j k = eqb (mask (without j (set_of k))) (cond (set_of k j) (k - weight j) k)
+without_test j k = eqb (mask (without j (set_of k))) (bit_and k (18446744073709551615 - weight j))
 
 without_all : (j : Slot) → upto 16 (without_test j) ≡ true
 unfolding without_test
@@ -47,9 +45,9 @@ without_all Second = refl
 without_all Third = refl
 without_all Fourth = refl
 
-pub mask_without : (j : Slot) (k : ℕ) → k < 16 → mask (without j (set_of k)) ≡ cond (set_of k j) (k - weight j) k
+mask_without : (j : Slot) (k : ℕ) → k < 16 → mask (without j (set_of k)) ≡ bit_and k (18446744073709551615 - weight j)
 unfolding without_test
-mask_without j k h = eqb-true (mask (without j (set_of k))) (cond (set_of k j) (k - weight j) k) (check 16 (without_test j) (without_all j) k h)
+mask_without j k h = eqb-true (mask (without j (set_of k))) (bit_and k (18446744073709551615 - weight j)) (check 16 (without_test j) (without_all j) k h)
 
 slots : {c d : Set} → c First ≡ d First → c Second ≡ d Second → c Third ≡ d Third → c Fourth ≡ d Fourth → c ≡ d
 slots {c} {d} e f g h = fun_ext at
@@ -94,43 +92,15 @@ cond_le false n = omega arith
 pub mask_small : (c : Set) → mask c < 16
 mask_small c = omega (arith, cond_le (c First) 1, cond_le (c Second) 2, cond_le (c Third) 4, cond_le (c Fourth) 8)
 
--- a list that is right at each of the sixteen numbers
+pub with_small : (j : Slot) (k : ℕ) → k < 16 → bit_or k (weight j) < 16
+with_small j k h = omega (arith, mask_with j k h, mask_small (with j (set_of k)))
+
+pub set_with : (j : Slot) (k : ℕ) → k < 16 → set_of (bit_or k (weight j)) ≡ with j (set_of k)
+set_with j k h = ap set_of (sym (mask_with j k h)) ∙ set_of_mask (with j (set_of k))
+
+pub set_without : (j : Slot) (k : ℕ) → k < 16 → set_of (bit_and k (18446744073709551615 - weight j)) ≡ without j (set_of k)
+set_without j k h = ap set_of (sym (mask_without j k h)) ∙ set_of_mask (without j (set_of k))
+
+-- sixteen values that are right at each of the sixteen numbers
 pub filled : {V : Type 0} (s : Ops V) (r : List V) (f : Set → V) → ((k : ℕ) → k < 16 → get_or r k s.top ≡ f (set_of k)) → clauses s r ≡ f
 filled s r f h = fun_ext (λ c. h (mask c) (mask_small c) ∙ ap f (set_of_mask c))
-
--- and a list read there
-pub clauses_at : {V : Type 0} (s : Ops V) (w : List V) (k : ℕ) → k < 16 → clauses s w (set_of k) ≡ get_or w k s.top
-clauses_at s w k h = ap (λ i. get_or w i s.top) (mask_set_of k h)
-
--- the first n of sixteen values are right
-abbrev pub Done : {V : Type 0} → Ops V → List V → ℕ → (Set → V) → Type 0
-Done s r n f = (length r ≡ 16) × ((k : ℕ) → k < n → get_or r k s.top ≡ f (set_of k))
-
-pub done_more : {V : Type 0} (s : Ops V) (r : List V) (i : ℕ) (u : V) (f : Set → V) → i < 16 → Done s r i f → u ≡ f (set_of i) → Done s (set r i u) (i + 1) f
-done_more s r i u f h d e = (
-  length-set r i u ∙ d.0,
-  below_more (λ k. get_or (set r i u) k s.top ≡ f (set_of k)) i
-      (λ k l. let ne : k ≢ i = omega arith in get_or-set_other r i k u s.top ne ∙ d.1 k l)
-      (let le : i < length r = omega (arith, d.0) in get_or-set_same r i u s.top le ∙ e),
-)
-
-pub done_all : {V : Type 0} (s : Ops V) (r : List V) (n : ℕ) (f : Set → V) → 16 ≤ n → Done s r n f → clauses s r ≡ f
-done_all s r n f h d = filled s r f (λ k l. d.1 k (omega arith))
-
--- the first n are written, and the others are as they were
-abbrev pub Written : {V : Type 0} → Ops V → List V → List V → ℕ → (Set → V) → Type 0
-Written s old r n f = ((k : ℕ) → k < n → get_or r k s.top ≡ f (set_of k)) × ((k : ℕ) → n ≤ k → get_or r k s.top ≡ get_or old k s.top)
-
-pub written_more : {V : Type 0} (s : Ops V) (old r : List V) (i : ℕ) (u : V) (f : Set → V) → i < length r → Written s old r i f → u ≡ f (set_of i) → Written s old (set r i u) (i + 1) f
-written_more s old r i u f h d e = (
-  below_more (λ k. get_or (set r i u) k s.top ≡ f (set_of k)) i
-      (λ k l. let ne : k ≢ i = omega arith in get_or-set_other r i k u s.top ne ∙ d.0 k l)
-      (get_or-set_same r i u s.top h ∙ e),
-  λ k l. let ne : k ≢ i = omega arith in get_or-set_other r i k u s.top ne ∙ d.1 k (omega arith),
-)
-
--- what a recursion over a trace ends by
-abbrev pub joints : Trace → ℕ
-joints (At j) = 0
-joints (Both' p a q b) = joints a + joints b + 1
-joints (Either' p a q b) = joints a + joints b + 1

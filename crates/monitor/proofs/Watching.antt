@@ -1,7 +1,9 @@
 -- From one step of each formula to the whole path of a book.
-use Rattle.std.proofs.Common.{◌≡◌, ℕ, zero, suc, ◌-◌, ◌*◌, ◌<◌, ◌≤◌, List, [], ◌∷◌, ◌++◌, map, length, get_or, drop, None, vec_items, vec_len, sym, ap, ◌∙◌, subst, arith}
+use Rattle.std.proofs.Common.{◌≡◌, ℕ, zero, suc, ◌-◌, ◌*◌, ◌<◌, ◌≤◌, List, [], ◌∷◌, ◌++◌, map, length, get_or, drop, Some, None, vec_items, vec_len, sym, ap, ◌∙◌, subst, arith}
 use Rattle.std.proofs.lemmas.List.{map-append, get_or-map}
+use Rattle.std.proofs.lemmas.Option.{slice_get_within, get_or_from_slice_get}
 use Rattle.scale.specs.Laws.{Ops, Laws}
+use Rattle.ftpl.specs.Numbers.{numbered}
 use Rattle.ftpl.specs.Paths.{Position, position_at}
 use Rattle.ftpl.specs.Formulas.{seen, formula_value, shown_value}
 use Rattle.ftpl.specs.declared.books.Book.{Book}
@@ -15,12 +17,6 @@ use Rattle.monitor.proofs.Whole.{run_more}
 use Rattle.monitor.proofs.Numbered.{segment, segment_list, right_numbered}
 
 module _ {V : Type 0} (s : Ops V) where
-  -- the lists that the code went over are those of the book
-  pub by_book : (fs fs' : List Formula) (ps ps' : List Property) (x : Position) (old new : List V) → fs ≡ fs' → ps ≡ ps' → Stepped s fs (λ f. step s f (seen s ps x)) old new → Stepped s fs' (λ f. step s f (seen s ps' x)) old new
-  by_book fs fs' ps ps' x old new e d h =
-      subst (λ (qs : List Property). Stepped s fs' (λ f. step s f (seen s qs x)) old new) d
-      (subst (λ (gs : List Formula). Stepped s gs (λ f. step s f (seen s ps x)) old new) e h)
-
   pub tidy_by : (n m : ℕ) (old new : List V) → n ≡ m → Tidy s n old new → Tidy s m old new
   tidy_by n m old new e h = subst (λ k. Tidy s k old new) e h
 
@@ -61,3 +57,11 @@ module _ {V : Type 0} (s : Ops V) where
       let on : suc m - 1 ≡ m = omega arith in
       get_or-map (λ g. formula_value s ps path g 0) fs m f s.bottom (omega arith)
       ∙ ap (λ g. formula_value s ps path g 0) (ap (λ k. get_or fs k f) (sym on) ∙ sym e)
+
+-- where a formula with a number was found
+pub numbered_here : (fs : List Formula) (n : ℕ) (f : Formula) → Some f ≡ numbered fs n → (1 ≤ n) × (n ≤ length fs) × (f ≡ get_or fs (n - 1) f)
+numbered_here fs zero f e = absurd (cc e)
+numbered_here fs (suc k) f e =
+    let on : suc k - 1 ≡ k = omega arith in
+    let inside = slice_get_within fs k f (sym e) in
+    (omega arith, omega arith, sym (get_or_from_slice_get fs k f f (sym e)) ∙ ap (λ i. get_or fs i f) (sym on))

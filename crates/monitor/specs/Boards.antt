@@ -1,5 +1,5 @@
 -- A board: forty values for each formula of a book, then 64 working values; values behind these are another's.
-use Rattle.std.specs.Prelude.{◌≡◌, ℕ, ◌+◌, ◌*◌, ◌<◌, ◌≤◌, false, List, ◌∷◌, map, length, drop, replicate, Ok, Err, vec_items, vec_len, Result, slice_index_or}
+use Rattle.std.specs.Prelude.{◌≡◌, ℕ, ◌+◌, ◌*◌, ◌<◌, ◌≤◌, Bool, false, ◌||◌, ◌==◌, List, ◌∷◌, map, length, drop, replicate, Ok, Err, vec_items, vec_len, Result, slice_index_or}
 use Rattle.std.specs.List.{between}
 use Rattle.scale.specs.Laws.{Ops}
 use Rattle.host.specs.declared.refusals.Refusal.{Refusal}
@@ -29,6 +29,10 @@ part i board = between (40 * i) (40 * i + 40) board
 abbrev pub working : {V : Type 0} → ℕ → List V → List V
 working count board = between (40 * count) (40 * count + 64) board
 
+-- whether a leaf names the property with a number
+abbrev pub names : PerLeaf Leaf → ℕ → Bool
+names l n = number_of l.first == n || number_of l.second == n || number_of l.third == n || number_of l.fourth == n
+
 -- the formula at i of a list
 pub record Stands (fs : List Formula) (i : ℕ) (f : Formula) : Type 0 where
   pub inside : i < length fs
@@ -41,6 +45,10 @@ module _ {V : Type 0} (s : Ops V) where
 
   abbrev pub values_in : List V → PerLeaf Leaf → PerLeaf V
   values_in xs l = told_by (record { value = working_value xs; event = λ e. false }) l
+
+  -- what serves each formula that names the property with a number
+  abbrev pub Serves : List Row → List Property → List Formula → ℕ → V → Type 0
+  Serves t ps fs number u = (i : ℕ) (f : Formula) (j : Slot) → Stands fs i f → number_of (leaf_at f.leaves j) ≡ number → u ≡ numbered_value s t ps number
 
   -- each formula finds the values of the properties that it names
   abbrev pub Ready : List Row → List Property → List Formula → List V → Type 0

@@ -1,7 +1,8 @@
 -- Where the monitor's values stand on a board.
-use Rattle.std.specs.Prelude.{◌≡◌, ℕ, ◌+◌, ◌/◌, ◌%◌, ◌<◌, ◌≤◌, cond, List, get_or, ◌==◌, slice_index_or}
+use Rattle.std.specs.Prelude.{ℕ, ◌+◌, ◌/◌, ◌%◌, cond, List, ◌==◌, slice_index_or}
 use Rattle.scale.specs.Laws.{Ops}
 use Rattle.monitor.specs.Monitor.{Set, Cell, clause, kept, State}
+use Rattle.monitor.specs.declared.steps.Held.{Held}
 use Rattle.ftpl.specs.declared.formulas.Slot.{Slot}
 use Rattle.ftpl.specs.declared.formulas.Slot.TheVariants.{First, Second, Third, Fourth}
 
@@ -34,11 +35,10 @@ module _ {V : Type 0} (s : Ops V) where
   abbrev pub viewed : List V → State V
   viewed xs = record { cells = cells_of xs; fresh = slice_index_or xs 17 s.top; one = slice_index_or xs 18 s.top; two = slice_index_or xs 19 s.top; three = slice_index_or xs 20 s.top }
 
-  -- the locks are written, and nothing else
-  pub record Locked (old new : List V) (one two three : V) : Type 0 where
-    pub fresh_is : get_or new 17 s.top ≡ s.top
-    pub one_is : get_or new 18 s.top ≡ one
-    pub two_is : get_or new 19 s.top ≡ two
-    pub three_is : get_or new 20 s.top ≡ three
-    pub below : (k : ℕ) → k < 17 → slice_index_or new k s.top ≡ slice_index_or old k s.top
-    pub above : (k : ℕ) → 21 ≤ k → slice_index_or new k s.top ≡ slice_index_or old k s.top
+  -- what the code holds of a formula
+  abbrev pub cells_held : Held V → Cell → V
+  cells_held h (clause c) = clauses h.clauses.0 c
+  cells_held h kept = h.kept
+
+  abbrev pub state_of : Held V → State V
+  state_of h = record { cells = cells_held h; fresh = h.fresh; one = h.one; two = h.two; three = h.three }

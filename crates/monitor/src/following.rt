@@ -1,16 +1,15 @@
 // The formulas of a book on one board, forty values each.
-ghost use Rattle.std.specs.Prelude.{◌≡◌, ℕ, ◌+◌, ◌*◌, ◌^◌, ◌<◌, ◌≤◌, length, take, drop, MatchOption, nat_le};
-ghost use Rattle.std.specs.List.{between};
+ghost use Rattle.std.specs.Prelude.{◌≡◌, ℕ, ◌+◌, ◌*◌, ◌^◌, ◌<◌, ◌≤◌, length, drop, MatchOption, nat_le, vec_items, vec_len};
 ghost use Rattle.ftpl.specs.Paths.{holds as holds_at};
 ghost use Rattle.ftpl.specs.Formulas.{seen};
 ghost use Rattle.monitor.specs.Monitor.{begin as begun, step, step_with};
 ghost use Rattle.monitor.specs.Layout.{viewed};
-ghost use Rattle.monitor.specs.Boards.{room, part, working, values_in, Stepped, Tidy};
+ghost use Rattle.monitor.specs.Boards.{room, part, values_in, Stepped, Tidy};
 
-use crate::steps::{advance, start};
+use crate::steps::Held;
 use crate::working::{clear, fill, values_of};
+use ftpl::books::Book;
 use ftpl::formulas::{Event, Formula};
-use ftpl::properties::Property;
 use host::Host;
 use scale::Scale;
 
@@ -18,7 +17,7 @@ use scale::Scale;
 pub fn has_room(formulas: usize, values: usize) -> bool
     ensures { result ≡ nat_le (room formulas) values }
 {
-    values >= 64 && formulas <= (values - 64) / 40
+    board_length(formulas).is_some_and(|needed| needed <= values)
 }
 
 /// The values that a board needs for so many formulas; none where no board can be that long.
@@ -28,35 +27,23 @@ pub fn board_length(formulas: usize) -> Option<usize>
     formulas.checked_mul(40)?.checked_add(64)
 }
 
-fn follow_at<S: Scale>(f: &Formula, event: Option<Event>, at: usize, base: usize, board: &mut [S])
-    requires within { at + 40 ≤ base }
-    requires room { base + 64 ≤ length board.old }
-    ensures part { viewed S.Scale.ops (between at (at + 40) board.new) ≡ step_with S.Scale.ops f.now (values_in S.Scale.ops (between base (base + 64) board.old) f.now.leaves) (λ e. holds_at e event) (viewed S.Scale.ops (between at (at + 40) board.old)) }
-    ensures before { take at board.new ≡ take at board.old }
-    ensures beyond { drop (at + 40) board.new ≡ drop (at + 40) board.old }
+fn follow_at<S: Scale>(f: &Formula, event: Option<Event>, working: &[S], cells: &mut [S])
+    requires { 40 ≤ length cells.old }
+    ensures { viewed S.Scale.ops cells.new ≡ step_with S.Scale.ops f.now (values_in S.Scale.ops working.now f.now.leaves) (λ e. holds_at e event) (viewed S.Scale.ops cells.old) }
 {
-    let values = values_of(&board[base..base + 64], f.leaves);
-    advance(f, values, event, &mut board[at..at + 40]);
+    Held::load(cells)
+        .advance(f, values_of(working, f.leaves), event)
+        .store(cells);
 }
 
 /// Goes on with each formula by one position, from the working values.
-fn follow<S: Scale>(formulas: &[Formula], event: Option<Event>, board: &mut [S])
-    requires { room (length formulas.now) ≤ length board.old }
-    ensures stepped { Stepped S.Scale.ops formulas.now (λ f. step_with S.Scale.ops f (values_in S.Scale.ops (working (length formulas.now) board.old) f.leaves) (λ e. holds_at e event)) board.old board.new }
-    ensures beyond { drop (40 * length formulas.now) board.new ≡ drop (40 * length formulas.now) board.old }
+fn follow<S: Scale>(formulas: &[Formula], event: Option<Event>, working: &[S], parts: &mut [S])
+    requires { 40 * length formulas.now ≤ length parts.old }
+    ensures { Stepped S.Scale.ops formulas.now (λ f. step_with S.Scale.ops f (values_in S.Scale.ops working.now f.leaves) (λ e. holds_at e event)) parts.old parts.new }
 {
-    for i in 0..formulas.len() {
-        follow_at(&formulas[i], event, 40 * i, 40 * formulas.len(), board);
+    for (i, f) in formulas.iter().enumerate() {
+        follow_at(f, event, working, &mut parts[40 * i..40 * i + 40]);
     }
-}
-
-fn start_at<S: Scale>(at: usize, board: &mut [S])
-    requires { at + 40 ≤ length board.old }
-    ensures part { viewed S.Scale.ops (between at (at + 40) board.new) ≡ begun S.Scale.ops }
-    ensures before { take at board.new ≡ take at board.old }
-    ensures beyond { drop (at + 40) board.new ≡ drop (at + 40) board.old }
-{
-    start(&mut board[at..at + 40]);
 }
 
 /// Before the first position, for so many formulas.
@@ -65,25 +52,27 @@ pub(crate) fn start_all<S: Scale>(formulas: usize, board: &mut [S])
     ensures started { (i : ℕ) → i < formulas → viewed S.Scale.ops (part i board.new) ≡ begun S.Scale.ops }
     ensures beyond { drop (40 * formulas) board.new ≡ drop (40 * formulas) board.old }
 {
+    // Stays: what `chunks_exact_mut` lends leaves nothing known of the board, so that each part is begun would stay open.
     for i in 0..formulas {
-        start_at(40 * i, board);
+        Held::begin().store(&mut board[40 * i..40 * i + 40]);
     }
 }
 
 /// Goes on with each formula by one position: the host's table, and what happened.
 pub(crate) fn advance_all<H: Host, S: Scale>(
     host: &H,
-    properties: &[Property],
-    formulas: &[Formula],
+    book: &Book,
     event: Option<Event>,
     board: &mut [S],
 )
-    requires { room (length formulas.now) ≤ length board.old }
-    ensures stepped { Stepped S.Scale.ops formulas.now (λ f. step S.Scale.ops f (seen S.Scale.ops properties.now (record { rows = H.Host.rows host.now; event = event }))) board.old board.new }
-    ensures tidy { Tidy S.Scale.ops (length formulas.now) board.old board.new }
+    requires { room (vec_len book.now.formulas) ≤ length board.old }
+    ensures stepped { Stepped S.Scale.ops (vec_items book.now.formulas) (λ f. step S.Scale.ops f (seen S.Scale.ops (vec_items book.now.properties) (record { rows = H.Host.rows host.now; event = event }))) board.old board.new }
+    ensures tidy { Tidy S.Scale.ops (vec_len book.now.formulas) board.old board.new }
 {
-    let base = 40 * formulas.len();
-    fill(host, properties, formulas, &mut board[base..base + 64]);
-    follow(formulas, event, board);
-    clear(&mut board[base..base + 64]);
+    let formulas = book.formulas.as_slice();
+    let (parts, rest) = board.split_at_mut(40 * formulas.len());
+    let (working, _) = rest.split_at_mut(64);
+    fill(host, book, working);
+    follow(formulas, event, working, parts);
+    clear(working);
 }

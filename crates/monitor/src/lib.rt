@@ -4,6 +4,7 @@
 mod calls;
 mod clauses;
 mod following;
+mod sets;
 mod steps;
 mod working;
 

@@ -5,7 +5,7 @@
 use ftpl::books::Book;
 use ftpl::formulas::{Core, Event, EventKind, EventList, Formula, Leaf, Leaves, Slot, Trace};
 use ftpl::properties::{Binder, Property, Quantifier, Test, Tests, Variable, VariableKind};
-use host::{COMPONENT, Host, NONE, PARAMETER, Plain, Row};
+use host::{COMPONENT, EMPTY, Host, PARAMETER, Plain, Row};
 use monitor::{begin, read, record};
 use scale::{Beside, Distance};
 use std::alloc::{AllocError, Global};
@@ -89,37 +89,41 @@ const MIXED: EventList = EventList {
     exceptional: 0,
 };
 
-// the first: T; the second: before [5 called] T; the third: T until [5 called]
-fn core(heap: Global, form: u8) -> Result<Core, AllocError> {
-    let joined = trace(heap)?;
-    match form {
-        0 => Ok(Core::Plain(joined)),
-        1 => Ok(Core::Before(CALLED_5, joined)),
-        _ => Ok(Core::Until(joined, CALLED_5)),
-    }
+const LEAVES: Leaves = Leaves {
+    first: Leaf::Always(1),
+    second: Leaf::Eventually(2),
+    third: Leaf::Never(3),
+    fourth: Leaf::Eventually(1),
+};
+
+// T; before [5 called] T; T until [5 called]
+fn cores(heap: Global) -> Result<[Core; 3], AllocError> {
+    Ok([
+        Core::Plain(trace(heap)?),
+        Core::Before(CALLED_5, trace(heap)?),
+        Core::Until(trace(heap)?, CALLED_5),
+    ])
 }
 
-// after [5 called] after [5 terminates] after [5 called, 6 normal], the last so many of them
-fn formula(heap: Global, afters: u8, form: u8) -> Result<Formula, AllocError> {
-    Ok(Formula {
-        first: if afters >= 3 { Some(CALLED_5) } else { None },
-        second: if afters >= 2 { Some(ENDED_5) } else { None },
-        third: if afters >= 1 { Some(MIXED) } else { None },
-        core: core(heap, form)?,
-        leaves: Leaves {
-            first: Leaf::Always(1),
-            second: Leaf::Eventually(2),
-            third: Leaf::Never(3),
-            fourth: Leaf::Eventually(1),
-        },
-    })
-}
+// the last none, one, two and three of: after [5 called] after [5 terminates] after [5 called, 6 normal]
+const AFTERS: [[Option<EventList>; 3]; 4] = [
+    [None, None, None],
+    [None, None, Some(MIXED)],
+    [None, Some(ENDED_5), Some(MIXED)],
+    [Some(CALLED_5), Some(ENDED_5), Some(MIXED)],
+];
 
 fn book(heap: Global) -> Result<Book, AllocError> {
     let mut formulas = Vec::new(heap);
-    for afters in 0..4u8 {
-        for form in 0..3u8 {
-            formulas.push(formula(heap, afters, form)?)?;
+    for [first, second, third] in AFTERS {
+        for core in cores(heap)? {
+            formulas.push(Formula {
+                first,
+                second,
+                third,
+                core,
+                leaves: LEAVES,
+            })?;
         }
     }
     Ok(Book {
@@ -134,22 +138,16 @@ fn set(host: &mut Plain, now: Moment) {
     let component = Row {
         kind: COMPONENT,
         name: 99 << 56,
-        owner: NONE,
-        link: NONE,
         up: now.up,
-        lo: 0,
-        hi: 0,
-        value: 0,
+        ..EMPTY
     };
     let parameter = Row {
         kind: PARAMETER,
         name: 97 << 56,
         owner: 0,
-        link: NONE,
-        up: 0,
-        lo: 0,
         hi: 100,
         value: now.value,
+        ..EMPTY
     };
     let _ = host.write(0, component);
     let _ = host.write(1, parameter);
@@ -161,7 +159,7 @@ fn show(
     position: usize,
     board: &[Beside<bool, Distance>],
 ) -> io::Result<()> {
-    for number in 1..13u8 {
+    for number in 1..=12u8 {
         match read(book, number, board) {
             Ok(value) => {
                 let yes = value.first;

@@ -1,23 +1,21 @@
-use Rattle.std.proofs.Common.{sym, ◌∙◌, arith}
-use Rattle.ftpl.proofs.Numbered.{numbered_some, numbered_far, numbered_none, numbered_zero}
+use Rattle.std.proofs.Common.{option_map, unwrap_or, sym, ap, ◌∙◌}
+use Rattle.std.specs.Option.{option_copied}
+use Rattle.ftpl.specs.Properties.{property_value}
+use Rattle.ftpl.proofs.Numbered.{numbered_listed}
 use Rattle.ftpl.proofs.values.numbered_value.Goals as goal
-use Rattle.ftpl.proofs.values.numbered_value.Goals.{else-count-ge1-via-then-count-ge1+then-count-le64+else-count-properties, else-count-ge1-via-then-count-ge1+else-count-le64, else-count-ge1-via-else-count-ge1}
 
-pub returns-then-count-properties : goal.returns-then-count-properties
-returns-then-count-properties g c =
-    c.property_value.ensures
-    ∙ sym (numbered_some g.S.Scale.ops (g.H.Host.rows c.args.host.now) c.args.properties.now c.args.number c.index-properties-count.result (omega arith) (omega arith) (omega arith) c.index-properties-count.is)
-
-pub returns-else-count-ge1 : goal.returns-else-count-ge1
-returns-else-count-ge1 g c =
+pub returns-in-Some : goal.returns-in-Some
+returns-in-Some g c =
     let s = g.S.Scale.ops in
     let t = g.H.Host.rows c.args.host.now in
-    let ps = c.args.properties.now in
-    let n = c.args.number in
+    c.property_value.ensures
+    ∙ sym (ap (λ r. unwrap_or (option_map (property_value s t) (option_copied r)) s.bottom) c.in-Some.is)
+    ∙ numbered_listed s t c.args.properties.now c.min.result c.args.number _ c.min.ensures c.numbered.ensures
+
+pub returns-in-None : goal.returns-in-None
+returns-in-None g c =
+    let s = g.S.Scale.ops in
+    let t = g.H.Host.rows c.args.host.now in
     c.bottom.ensures
-    ∙ sym
-    (elim c.else-count-ge1.branch [
-      | else-count-ge1-via-then-count-ge1+then-count-le64+else-count-properties w ↦ numbered_none s t ps n (omega arith)
-      | else-count-ge1-via-then-count-ge1+else-count-le64 w ↦ numbered_far s t ps n (omega arith)
-      | else-count-ge1-via-else-count-ge1 w ↦ numbered_zero s t ps n (omega arith)
-    ])
+    ∙ sym (ap (λ r. unwrap_or (option_map (property_value s t) (option_copied r)) s.bottom) c.in-None.is)
+    ∙ numbered_listed s t c.args.properties.now c.min.result c.args.number _ c.min.ensures c.numbered.ensures

@@ -1,27 +1,26 @@
-use Rattle.std.proofs.Common.{◌≡◌, ◌+◌, ◌-◌, ◌*◌, length, take, drop, ◌∙◌, rules}
-use borrow.Rule.Slice.PartMut.{put_mid}
-use Rattle.std.proofs.lemmas.Slice.{overwrites}
+use Rattle.std.proofs.Common.{◌≡◌, ◌*◌, List, length, take, drop, vec_items, sym, ap, ◌∙◌, subst, arith}
 use Rattle.ftpl.specs.Paths.{holds}
-use Rattle.monitor.specs.Boards.{working}
+use Rattle.ftpl.specs.declared.formulas.EventList.{EventList}
+use Rattle.ftpl.specs.declared.formulas.Formula.{Formula}
+use Rattle.monitor.specs.Monitor.{step_with}
+use Rattle.monitor.specs.Boards.{Stepped, values_in}
 use Rattle.monitor.proofs.Followed.{advanced}
+use Rattle.monitor.proofs.Watching.{tidy_by}
 use Rattle.monitor.proofs.following.advance_all.Goals as goal
 
 pub returns : goal.returns
 returns g c =
     let s = g.S.Scale.ops in
-    let fs = c.args.formulas.now in
-    let base = 40 * length fs in
+    let event = λ (e : EventList). holds e c.args.event in
+    let gs = c.as_slice-formulas.result.now in
+    let fs = vec_items c.args.book.now.formulas in
+    let same : gs ≡ fs = c.as_slice-formulas.ensures.value in
+    let long : length gs ≡ length fs = ap length same in
+    let board = c.args.board.now in
     let filled = c.fill.new.values in
-    let cleared = c.clear.new.values in
-    let b₀ = c.args.board.now in
-    let b₁ = put_mid base ((base + 64) - base) b₀ filled in
-    let b₂ = c.follow.new.board in
-    let b₃ = put_mid base ((base + 64) - base) b₂ cleared in
-    let front₁ : take base b₁ ≡ take base b₀ = search (rules, overwrites) in
-    let back₁ : drop (base + 64) b₁ ≡ drop (base + 64) b₀ = search (rules, overwrites) in
-    let mid₁ : working (length fs) b₁ ≡ filled = search (rules, overwrites) in
-    let front₃ : take base b₃ ≡ take base b₂ = search (rules, overwrites) in
-    let back₃ : drop (base + 64) b₃ ≡ drop (base + 64) b₂ = search (rules, overwrites) in
-    let mid₃ : working (length fs) b₃ ≡ cleared = search (rules, overwrites) in
-    let all = advanced s (g.H.Host.rows c.args.host.now) c.args.properties.now fs (λ e. holds e c.args.event) filled b₀ b₁ b₂ b₃ front₁ back₁ mid₁ c.fill.ensures c.follow.ensures.stepped c.follow.ensures.beyond front₃ back₃ (mid₃ ∙ c.clear.ensures) in
-    record { stepped = all.0; tidy = all.1 }
+    let parts = c.split_at_mut-parts in
+    let working = c.split_at_mut-working in
+    let stepped = subst (λ (hs : List Formula). Stepped s hs (λ f. step_with s f (values_in s filled f.leaves) event) parts.result.0.now c.follow.new.parts) same c.follow.ensures in
+    let all = advanced s (g.H.Host.rows c.args.host.now) (vec_items c.args.book.now.properties) fs event filled c.clear.new.values board parts.result.1.now working.result.1.now parts.result.0.now c.follow.new.parts
+    (parts.ensures.front ∙ ap (λ k. take (40 * k) board) long) (parts.ensures.back ∙ ap (λ k. drop (40 * k) board) long) working.ensures.back (omega arith) c.fill.ensures stepped (omega arith) c.clear.ensures in
+    record { stepped = all.0; tidy = tidy_by s _ _ board _ (sym long ∙ c.as_slice-formulas.ensures.len) all.1 }

@@ -1,21 +1,29 @@
-use Rattle.std.proofs.Common.{◌≡◌, ◌+◌, ◌-◌, ap, ◌∙◌, rules}
-use borrow.Rule.Slice.PartMut.{put_mid}
-use Rattle.std.specs.List.{between}
-use Rattle.std.proofs.lemmas.Slice.{overwrites}
+use Rattle.std.proofs.Common.{◌≤◌, length, mul-le-mul_right, ap₂, ◌∙◌, arith}
+use Rattle.ftpl.specs.declared.formulas.PerLeaf.{PerLeaf}
 use Rattle.ftpl.specs.Paths.{holds}
-use Rattle.monitor.specs.Monitor.{step_with}
-use Rattle.monitor.specs.Layout.{viewed}
+use Rattle.monitor.specs.Monitor.{State, step_with}
+use Rattle.monitor.proofs.Sizes.{held_fits}
 use Rattle.monitor.proofs.following.follow_at.Goals as goal
+
+pub load-requires : goal.load-requires
+load-requires g c =
+    let le : 40 ≤ length c.args.cells.now = omega arith in
+    let m = mul-le-mul_right (prog.Memory.size (denote.Memory.lone g.row.S.mir)) le in
+    (held_fits (denote.Memory.lone g.row.S.mir) (omega arith), omega arith)
+
+pub advance-requires : goal.advance-requires
+advance-requires g c =
+    let le : 40 ≤ length c.args.cells.now = omega arith in
+    let m = mul-le-mul_right (prog.Memory.size (denote.Memory.lone g.row.S.mir)) le in
+    held_fits (denote.Memory.lone g.row.S.mir) (omega arith)
+
+pub store-requires : goal.store-requires
+store-requires g c =
+    let le : 40 ≤ length c.args.cells.now = omega arith in
+    let m = mul-le-mul_right (prog.Memory.size (denote.Memory.lone g.row.S.mir)) le in
+    (held_fits (denote.Memory.lone g.row.S.mir) (omega arith), omega arith)
 
 pub returns : goal.returns
 returns g c =
     let s = g.S.Scale.ops in
-    let a = c.args.at in
-    let xs = c.args.board.now in
-    let ys = c.advance.new.cells in
-    let same : between a (a + 40) (put_mid a ((a + 40) - a) xs ys) ≡ ys = search (rules, overwrites) in
-    record {
-      part = ap (viewed s) same ∙ c.advance.ensures.step ∙ ap (λ v. step_with s c.args.f.now v (λ e. holds e c.args.event) (viewed s (between a (a + 40) xs))) c.values_of-values.ensures;
-      before = search (rules, overwrites);
-      beyond = search (rules, overwrites);
-    }
+    c.store.ensures.held ∙ c.advance.ensures ∙ ap₂ (λ (v : PerLeaf g.row.S.Denot) (b : State g.row.S.Denot). step_with s c.args.f.now v (λ e. holds e c.args.event) b) c.values_of.ensures c.load.ensures

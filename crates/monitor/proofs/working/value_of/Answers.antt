@@ -1,16 +1,12 @@
-use Rattle.std.proofs.Common.{sym, ◌∙◌, arith}
-use Rattle.monitor.proofs.Filled.{working_none, working_zero}
+use Rattle.std.proofs.Common.{sym, ap, ◌∙◌}
+use Rattle.std.specs.Option.{option_copied}
+use Rattle.ftpl.specs.Numbers.{numbered}
+use Rattle.monitor.specs.Monitor.{number_of}
+use Rattle.monitor.proofs.Filled.{working_none}
 use Rattle.monitor.proofs.working.value_of.Goals as goal
-use Rattle.monitor.proofs.working.value_of.Goals.{else-count-ge1-via-then-count-ge1+else-count-values, else-count-ge1-via-else-count-ge1}
 
-pub returns-else-count-ge1 : goal.returns-else-count-ge1
-returns-else-count-ge1 g c =
-    let s = g.S.Scale.ops in
+pub returns-in-None : goal.returns-in-None
+returns-in-None g c =
     let xs = c.args.values.now in
-    let n = c.args.number in
     c.bottom.ensures
-    ∙ sym
-    (elim c.else-count-ge1.branch [
-      | else-count-ge1-via-then-count-ge1+else-count-values w ↦ working_none s xs n (omega arith)
-      | else-count-ge1-via-else-count-ge1 w ↦ working_zero s xs n (omega arith)
-    ])
+    ∙ sym (working_none g.S.Scale.ops xs (number_of c.args.leaf) (ap (numbered xs) (sym c.number_of.ensures) ∙ sym c.numbered.ensures ∙ ap option_copied c.in-None.is))

@@ -1,7 +1,0 @@
-use Rattle.monitor.specs.Monitor.{Set}
-use Rattle.monitor.specs.Layout.{clauses}
-use Rattle.monitor.proofs.Masks.{Done}
-use Rattle.monitor.proofs.clauses.each_both.Given as goal
-
-abbrev pub invariant-loop-c : goal.invariant-loop-c
-invariant-loop-c g l = let s = g.S.Scale.ops in Done s l.r l.c (λ (i : Set). s.both (clauses s l.a i) (clauses s l.b i))
