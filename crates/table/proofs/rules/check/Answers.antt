@@ -1,4 +1,4 @@
-use Rattle.std.proofs.Common.{Ok, Err, arith, below_more}
+use Rattle.std.proofs.Common.{Ok, Err, arith}
 use Rattle.table.specs.Rules.{FirstBreach, Lawful}
 use Rattle.table.specs.Verdicts.{lawful_within}
 use Rattle.table.proofs.Ruling.{is_verdict}
