@@ -21,7 +21,7 @@ impl From<AllocError> for ReadError<'_> {
     ghost from_gives = { λ _ e. e ≡ Memory };
 
     fn from(_error: AllocError) -> Self {
-        ReadError::Memory
+        Self::Memory
     }
 }
 

@@ -20,13 +20,22 @@ pub enum Class {
 }
 
 /// The kind of a byte.
+// Stays: each of the nine signs is a case of its own, as the project has it, and not one of a pattern.
 pub(crate) fn byte_kind(b: u8) -> ByteKind
     ensures { result ≡ kind_of b }
 {
     match b {
         b' ' => ByteKind::Blank,
         b'\n' => ByteKind::Newline,
-        b'(' | b')' | b'[' | b']' | b',' | b':' | b'!' | b'&' | b'|' => ByteKind::Sign,
+        b'(' => ByteKind::Sign,
+        b')' => ByteKind::Sign,
+        b'[' => ByteKind::Sign,
+        b']' => ByteKind::Sign,
+        b',' => ByteKind::Sign,
+        b':' => ByteKind::Sign,
+        b'!' => ByteKind::Sign,
+        b'&' => ByteKind::Sign,
+        b'|' => ByteKind::Sign,
         _ => ByteKind::Plain,
     }
 }

@@ -25,7 +25,7 @@ impl From<AllocError> for BookError<'_> {
     ghost from_gives = { λ _ e. e ≡ Memory };
 
     fn from(_error: AllocError) -> Self {
-        BookError::Memory
+        Self::Memory
     }
 }
 
