@@ -1,5 +1,5 @@
 // The rule of a formula as text, with a parenthesis around every pair of traces that is joined.
-use ftpl::formulas::{Core, EventList, Formula, Leaf, Leaves, Slot, Trace};
+use ftpl::formulas::{Core, EventList, Formula, Leaf, Leaves, Trace};
 use std::fmt;
 use std::fmt::Write;
 
@@ -64,15 +64,6 @@ fn write_after<W: fmt::Write>(f: &mut fmt::Formatter<W>, list: Option<EventList>
     }
 }
 
-fn leaf_at(leaves: Leaves, slot: Slot) -> Leaf {
-    match slot {
-        Slot::First => leaves.first,
-        Slot::Second => leaves.second,
-        Slot::Third => leaves.third,
-        Slot::Fourth => leaves.fourth,
-    }
-}
-
 fn write_leaf<W: fmt::Write>(f: &mut fmt::Formatter<W>, leaf: Leaf) -> fmt::Result {
     match leaf {
         Leaf::Always(property) => write!(f, "always {property}"),
@@ -87,7 +78,7 @@ fn write_trace<W: fmt::Write>(
     trace: &Trace,
 ) -> fmt::Result {
     match trace {
-        Trace::At(slot) => write_leaf(f, leaf_at(leaves, *slot)),
+        Trace::At(slot) => write_leaf(f, leaves.at(*slot)),
         Trace::Both(left, right) => {
             f.write_str("(")?;
             write_trace(f, leaves, left)?;

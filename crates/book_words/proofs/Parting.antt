@@ -1,14 +1,15 @@
 -- Parts of a text, and what is known of a token once its end is found.
-use Rattle.std.proofs.Common.{◌≡◌, ℕ, suc, ◌+◌, ◌-◌, ◌<◌, ◌≤◌, true, false, ◌⊎◌, List, [], ◌∷◌, ◌++◌, length, get_or, take, drop, sym, ap, ◌∙◌, subst, inl, inr, ⊎_elim, add-one, arith, length-drop, take-append-drop, get_or-drop, get_or-take}
-use Rattle.std.proofs.lemmas.Bool.{cases_lt, eqb-true, eqb-false, true≢false}
+use Rattle.std.proofs.Common.{◌≡◌, ℕ, suc, ◌+◌, ◌-◌, ◌<◌, ◌≤◌, true, ◌⊎◌, List, [], ◌∷◌, ◌++◌, length, get_or, take, drop, sym, ap, ◌∙◌, subst, inl, inr, ⊎_elim, add-one, arith, length-drop, take-append-drop, get_or-drop, get_or-take}
+use Rattle.std.proofs.lemmas.Bool.{cases_lt, eqb-true}
 use Rattle.std.proofs.ByRecursion.{All-from_get_or}
 use Rattle.std.proofs.lemmas.List.{take-take, drop-take, drop-drop, drop_more, length-take-le}
+use Rattle.std.specs.List.{AllWithin}
 use Rattle.book_words.specs.declared.bytes.ByteKind.TheVariants.{Plain}
 use Rattle.book_words.specs.declared.bytes.Class.{Class}
 use Rattle.book_words.specs.declared.bytes.Class.TheVariants.{Line, Sign, Word}
 use Rattle.book_words.specs.Bytes.{kind_of, is_sign}
 use Rattle.book_words.specs.Layout.{Gap}
-use Rattle.book_words.specs.Cuts.{part, Ended, Begins, EndsAt, Skips, Blanked, Misplaced, gap_fits}
+use Rattle.book_words.specs.Cuts.{part, Ended, Begins, EndsAt, Skips, Blanked, gap_fits}
 
 pub part_join : {A : Type 0} (s : List A) (a b e : ℕ) → a ≤ b → b ≤ e → part s a e ≡ part s a b ++ part s b e
 part_join s a b e h k =
@@ -35,6 +36,10 @@ length_part s a e h = length-take-le (e - a) (drop a s) (omega (arith, length-dr
 
 pub get_d_part : (s : List ℕ) (a e k : ℕ) → k < e - a → get_or (part s a e) k 0 ≡ get_or s (a + k) 0
 get_d_part s a e k h = get_or-take (e - a) (drop a s) k 0 h ∙ get_or-drop a s k 0
+
+-- bytes that are plain in what is left of a text from a on are plain in the text
+pub plain_ahead : (s : List ℕ) (a n : ℕ) → n ≤ length s - a → AllWithin (λ b. kind_of b ≡ Plain) (part s a (length s)) 0 n → (k : ℕ) → a ≤ k → k < a + n → kind_of (get_or s k 0) ≡ Plain
+plain_ahead s a n m h k l g = subst (λ b. kind_of b ≡ Plain) (get_d_part s a (length s) (k - a) (omega arith) ∙ ap (λ i. get_or s i 0) (omega arith)) (h (k - a) 0 (omega arith) (omega arith))
 
 pub ends_line : (s : List ℕ) (a : ℕ) → a < length s → get_or s a 0 ≡ 10 → EndsAt Line s a (a + 1)
 ends_line s a h b = record { ahead = omega arith; inside = omega arith; proper = part_one 0 s a h ∙ ap (λ z. z ∷ []) b; ended = tt }
@@ -70,28 +75,3 @@ found_gap Sign d s i a k l b e g = one_blank s i a k
 found_gap Word Line s i a k l b e g = no_gap s i a (eqb-true i a g)
 found_gap Word Sign s i a k l b e g = one_blank s i a k
 found_gap Word Word s i a k l b e g = word_gap s i a k l b e
-
-no_token : (s : List ℕ) (i a : ℕ) → i ≤ length s → Blanked s i a → (a < length s → get_or s a 0 ≡ 32) → (i ≡ length s) ⊎ ((i < length s) × (get_or s i 0 ≡ 32) × (i + 1 < length s → get_or s (i + 1) 0 ≡ 32))
-no_token s i a l (inl h) n = ⊎_elim (λ z. absurd (h.1 z (subst (λ y. get_or s y 0 ≡ 32) h.0 (n (omega (arith, h.0)))))) (λ z. inl (omega arith)) (cases_lt i (length s))
-no_token s i a l (inr h) n = inr (h.1, h.2, λ z. subst (λ y. get_or s y 0 ≡ 32) h.0 (n (omega (arith, h.0))))
-
-weaken : {A : Type 0} (P Q : Type 0) → A ⊎ P → (P → Q) → A ⊎ Q
-weaken P Q (inl x) f = inl x
-weaken P Q (inr x) f = inr (f x)
-
--- where no token is found the text has ended, or a blank is misplaced
-pub none_found : (c : Class) (s : List ℕ) (i a : ℕ) → i ≤ length s → Skips s i c a → (a < length s → get_or s a 0 ≡ 32) → (i ≡ length s) ⊎ Misplaced c s i
-none_found Line s i a l k n = ⊎_elim (λ z. inr (z, subst (λ y. get_or s y 0 ≡ 32) k (n (omega arith)))) (λ z. inl (omega arith)) (cases_lt i (length s))
-none_found Sign s i a l k n = no_token s i a l k n
-none_found Word s i a l k n = weaken _ _ (no_token s i a l k n) (λ h. (h.0, h.1, λ z. inl (h.2 z)))
-
-stray_word : (s : List ℕ) (i a : ℕ) → Blanked s i a → get_or s a 0 ≡ 10 → (i ≡ a → ⊥) → Misplaced Word s i
-stray_word s i a (inl h) b n = absurd (n (sym h.0))
-stray_word s i a (inr h) b n = (h.1, h.2, λ z. inr (subst (λ y. get_or s y 0 ≡ 10) h.0 b))
-
-pub stray : (c d : Class) (s : List ℕ) (i a : ℕ) → Skips s i c a → Begins d (get_or s a 0) → gap_fits c i a d ≡ false → Misplaced c s i
-stray Line d s i a k b g = absurd (true≢false g)
-stray Sign d s i a k b g = absurd (true≢false g)
-stray Word Line s i a k b g = stray_word s i a k b (eqb-false i a g)
-stray Word Sign s i a k b g = absurd (true≢false g)
-stray Word Word s i a k b g = absurd (true≢false g)

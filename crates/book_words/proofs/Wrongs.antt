@@ -2,7 +2,7 @@
 use Rattle.std.proofs.Common.{◌≡◌, ℕ, ◌+◌, ◌-◌, ◌<◌, ◌≤◌, ◌⊎◌, List, [], ◌∷◌, ◌++◌, length, get_or, take, drop, sym, refl, ap, ◌∙◌, subst, inl, inr, ⊎_elim, true≢false, append_assoc, append-nil, arith, length-append, take-append-drop}
 use lib.ListN.{length-map}
 use Rattle.std.specs.List.{AllByRecursion}
-use Rattle.std.proofs.lemmas.List.{drop_more, drop_all, get_or_default}
+use Rattle.std.proofs.lemmas.List.{drop_more, drop_all}
 use Rattle.std.proofs.lemmas.Bool.{cases_lt}
 use Rattle.book_words.specs.declared.bytes.Class.{Class}
 use Rattle.book_words.specs.declared.bytes.Class.TheVariants.{Line, Sign, Word}
@@ -218,19 +218,6 @@ at_index {s} (next {ts = ts} {i = i} {c = c} {x = x} k t) n h =
     (λ l. let r = at_index k n l in record { us = r.us; rest = r.rest ++ (x.token ∷ []); i = r.i; c = r.c; x = r.x; cut = r.cut; stands = r.stands; list = ap (λ z. z ++ (x.token ∷ [])) r.list ∙ append_assoc r.us (r.x.token ∷ r.rest) (x.token ∷ []); long = r.long })
     (λ l. record { us = ts; rest = []; i = i; c = c; x = x; cut = k; stands = t; list = refl; long = omega (arith, length-append ts (x.token ∷ [])) })
     (cases_lt n (length ts))
-
--- a token as it is told
-pub points_told : (s : List ℕ) (ts xs : List Token) (e : ℕ) (c : Class) (n : ℕ) (r d : Token) → xs ≡ ts → n < length xs → r.at ≡ (get_or xs n d).at → ((get_or xs n d).word.now ≡ 10 ∷ [] → r.word.now ≡ []) → (((get_or xs n d).word.now ≡ 10 ∷ [] → ⊥) → r.word.now ≡ (get_or xs n d).word.now) → Points s ts e c n r
-points_told s ts xs e c n r d q h p l w =
-    let same : get_or xs n d ≡ get_or ts n r = get_or_default xs n d r h ∙ ap (λ z. get_or z n r) q in
-    let long = ap length q in
-    record {
-      place = λ _. p ∙ ap (λ z. z.at) same;
-      word = λ _ m. w (λ z. m (sym (ap (λ y. y.word.now) same) ∙ z)) ∙ ap (λ y. y.word.now) same;
-      line = λ _ m. l (ap (λ y. y.word.now) same ∙ m);
-      end = λ k _. absurd (omega arith);
-      lacks = λ k _. absurd (omega arith);
-    }
 
 take_own : {A : Type 0} (us v : List A) → take (length us) (us ++ v) ≡ us
 take_own [] v = refl

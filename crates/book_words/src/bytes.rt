@@ -3,7 +3,7 @@ ghost use Rattle.std.specs.Prelude.{◌≡◌};
 ghost use Rattle.book_words.specs.Bytes.{kind_of};
 
 /// What a byte stands for.
-#[derive(Clone, Copy)]
+#[derive(Clone, Copy, PartialEq, Eq, Debug)]
 pub enum ByteKind {
     Blank,
     Newline,
@@ -12,29 +12,21 @@ pub enum ByteKind {
 }
 
 /// What a token is: the end of a line, a sign, or a word. The start of the text counts as the end of a line.
-#[derive(Clone, Copy)]
+#[derive(Clone, Copy, PartialEq, Eq, Debug)]
 pub enum Class {
     Line,
     Sign,
     Word,
 }
 
-/// The kind of a byte: each of the nine signs is a case of its own.
+/// The kind of a byte.
 pub(crate) fn byte_kind(b: u8) -> ByteKind
     ensures { result ≡ kind_of b }
 {
     match b {
         b' ' => ByteKind::Blank,
         b'\n' => ByteKind::Newline,
-        b'(' => ByteKind::Sign,
-        b')' => ByteKind::Sign,
-        b'[' => ByteKind::Sign,
-        b']' => ByteKind::Sign,
-        b',' => ByteKind::Sign,
-        b':' => ByteKind::Sign,
-        b'!' => ByteKind::Sign,
-        b'&' => ByteKind::Sign,
-        b'|' => ByteKind::Sign,
+        b'(' | b')' | b'[' | b']' | b',' | b':' | b'!' | b'&' | b'|' => ByteKind::Sign,
         _ => ByteKind::Plain,
     }
 }

@@ -15,16 +15,13 @@ fn word_end(text: &[u8], at: usize) -> usize
     ensures plain { (k : ℕ) → at ≤ k → k < result → kind_of (slice_index text.now k) ≡ Plain }
     ensures ends { result < length text.now → kind_of (slice_index text.now result) ≢ Plain }
 {
-    let mut end = at;
-    while end < text.len() {
-        match byte_kind(text[end]) {
-            ByteKind::Plain => end += 1,
-            ByteKind::Blank => return end,
-            ByteKind::Newline => return end,
-            ByteKind::Sign => return end,
-        }
+    let plain = text[at..]
+        .iter()
+        .position(|b| byte_kind(*b) != ByteKind::Plain);
+    match plain {
+        Some(n) => at + n,
+        None => text.len(),
     }
-    end
 }
 
 /// Behind the one blank that may stand at `at`, where the token before it is of this class.
@@ -34,8 +31,7 @@ fn skip_blank(text: &[u8], at: usize, class: Class) -> usize
 {
     match class {
         Class::Line => at,
-        Class::Sign => blank_end(text, at),
-        Class::Word => blank_end(text, at),
+        Class::Sign | Class::Word => blank_end(text, at),
     }
 }
 
@@ -44,27 +40,22 @@ fn blank_end(text: &[u8], at: usize) -> usize
     requires { at ≤ length text.now }
     ensures { Blanked text.now at result }
 {
-    if at < text.len() {
-        if text[at] == b' ' {
-            return at + 1;
-        }
+    if text.get(at) == Some(&b' ') {
+        at + 1
+    } else {
+        at
     }
-    at
 }
 
 /// The class of the token at `at`; none at a blank or at the end of the text.
 fn class_at(text: &[u8], at: usize) -> Option<Class>
     ensures { MatchOption result (at < length text.now → slice_index text.now at ≡ 32) (λ d. (at < length text.now) × Begins d (slice_index text.now at)) }
 {
-    if at < text.len() {
-        match byte_kind(text[at]) {
-            ByteKind::Blank => None,
-            ByteKind::Newline => Some(Class::Line),
-            ByteKind::Sign => Some(Class::Sign),
-            ByteKind::Plain => Some(Class::Word),
-        }
-    } else {
-        None
+    match byte_kind(*text.get(at)?) {
+        ByteKind::Blank => None,
+        ByteKind::Newline => Some(Class::Line),
+        ByteKind::Sign => Some(Class::Sign),
+        ByteKind::Plain => Some(Class::Word),
     }
 }
 
@@ -74,8 +65,7 @@ fn token_end(text: &[u8], at: usize, class: Class) -> usize
     ensures { EndsAt class text.now at result }
 {
     match class {
-        Class::Line => at + 1,
-        Class::Sign => at + 1,
+        Class::Line | Class::Sign => at + 1,
         Class::Word => word_end(text, at),
     }
 }
@@ -86,10 +76,7 @@ fn gap_fits(before: Class, end: usize, at: usize, after: Class) -> bool
 {
     match (before, after) {
         (Class::Word, Class::Line) => end == at,
-        (Class::Word, Class::Sign) => true,
-        (Class::Word, Class::Word) => true,
-        (Class::Line, _) => true,
-        (Class::Sign, _) => true,
+        _ => true,
     }
 }
 
@@ -99,9 +86,7 @@ pub(crate) fn next_token<'a>(text: &'a [u8], end: usize, class: Class) -> Option
     ensures { MatchOption result ((end ≡ length text.now) ⊎ Misplaced class text.now end) (λ x. Stands text.now end class x) }
 {
     let at = skip_blank(text, end, class);
-    let Some(found) = class_at(text, at) else {
-        return None;
-    };
+    let found = class_at(text, at)?;
     if !gap_fits(class, end, at, found) {
         return None;
     }

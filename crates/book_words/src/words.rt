@@ -1,5 +1,5 @@
 // A text cut into tokens.
-ghost use Rattle.std.specs.Prelude.{◌≡◌, ◌^◌, ◌<◌, ◌≤◌, [], ◌∷◌, length, IfOk, Decides, ◌≢◌};
+ghost use Rattle.std.specs.Prelude.{◌≡◌, ◌^◌, ◌<◌, ◌≤◌, [], ◌∷◌, length, IfOk, ◌≢◌};
 ghost use Rattle.book_words.specs.Cutting.{Cutting};
 ghost use Rattle.book_words.specs.Cuts.{Points, lack_at};
 
@@ -36,20 +36,17 @@ pub fn point<'a>(text: &'a [u8], words: &Words<'a>, n: usize) -> Token<'a>
     requires { words.now.end ≤ length text.now }
     ensures { Points text.now words.now.tokens.items words.now.end words.now.class n result }
 {
-    let tokens = words.tokens.as_slice();
-    if n < tokens.len() {
-        told(tokens[n])
-    } else if words.end == text.len() {
-        Token {
-            word: &text[words.end..words.end],
-            at: words.end,
-        }
+    if let Some(token) = words.tokens.get(n) {
+        return told(*token);
+    }
+    let at = if words.end == text.len() {
+        words.end
     } else {
-        let at = lack_at(words.class, words.end);
-        Token {
-            word: &text[words.end..words.end],
-            at,
-        }
+        lack_at(words.class, words.end)
+    };
+    Token {
+        word: &text[words.end..words.end],
+        at,
     }
 }
 
@@ -59,20 +56,13 @@ fn told<'a>(token: Token<'a>) -> Token<'a>
     ensures line { token.entry.word.now ≡ 10 ∷ [] → result.word.now ≡ [] }
     ensures word { (token.entry.word.now ≢ 10 ∷ []) → result.word.now ≡ token.entry.word.now }
 {
-    if is_newline(token.word) {
-        Token {
-            word: &token.word[0..0],
-            at: token.at,
-        }
-    } else {
-        token
+    match token.word {
+        b"\n" => Token {
+            word: &token.word[..0],
+            ..token
+        },
+        _ => token,
     }
-}
-
-fn is_newline(word: &[u8]) -> bool
-    ensures { Decides result (word.now ≡ 10 ∷ []) }
-{
-    word == b"\n".as_slice()
 }
 
 fn lack_at(class: Class, end: usize) -> usize
@@ -81,7 +71,6 @@ fn lack_at(class: Class, end: usize) -> usize
 {
     match class {
         Class::Line => end,
-        Class::Sign => end + 1,
-        Class::Word => end + 1,
+        Class::Sign | Class::Word => end + 1,
     }
 }

@@ -3,7 +3,7 @@ use Rattle.std.proofs.Common.{◌≡◌, ℕ, ◌+◌, ◌<◌, ◌≤◌, Bool,
 use Rattle.std.specs.Str.{bytes_eq}
 use Rattle.std.proofs.lemmas.Bool.{cases_lt, cond-false}
 use Rattle.ftpl.specs.declared.formulas.Leaf.{Leaf}
-use Rattle.ftpl.specs.declared.formulas.Leaves.{Leaves}
+use Rattle.ftpl.specs.declared.formulas.PerLeaf.{PerLeaf}
 use Rattle.ftpl.specs.declared.formulas.Core.TheVariants as cores
 use Rattle.book_text.specs.declared.parts.Stop.{Stop}
 use Rattle.book_text.specs.declared.parts.Stop.TheVariants.{Wrong, Memory}
@@ -56,7 +56,7 @@ failed_as n Q st st₁ s a (Wrong e) h q x = ⊎_elim onward here (cases_lt a e)
         record { ahead = x.ahead; inside = x.inside; onward = x.onward; alive = subst Running (sym j) x.alive; wrong = ap (λ z. step n z (get_or s e [])) j ∙ x.wrong }
 
 -- the slots that no leaf takes repeat the first
-four_filled : (l : Leaves) (xs : List Leaf) → 0 < length xs → length xs ≤ 4 → fill l 0 xs ≡ four xs
+four_filled : (l : PerLeaf Leaf) (xs : List Leaf) → 0 < length xs → length xs ≤ 4 → fill l 0 xs ≡ four xs
 four_filled l [] h k = absurd (omega arith)
 four_filled l (a ∷ []) h k = refl
 four_filled l (a ∷ b ∷ []) h k = refl
@@ -65,7 +65,7 @@ four_filled l (a ∷ b ∷ c ∷ d ∷ []) h k = refl
 four_filled l (a ∷ b ∷ c ∷ d ∷ e ∷ xs) h k = absurd (omega arith)
 
 -- a whole trace
-pub trace_took : (n : ℕ) (s : List Text) (a : ℕ) (l : Leaves) (x : Part) → Took loose n 8 s (record { at = a; count = 0; leaves = l }) x → TraceTook n s a x
+pub trace_took : (n : ℕ) (s : List Text) (a : ℕ) (l : PerLeaf Leaf) (x : Part) → Took loose n 8 s (record { at = a; count = 0; leaves = l }) x → TraceTook n s a x
 trace_took n s a l x w =
     record {
       ahead = w.ahead;

@@ -3,7 +3,7 @@ use Rattle.std.proofs.Common.{◌≡◌, ℕ, ◌+◌, ◌-◌, ◌<◌, ◌≤�
 use Rattle.std.specs.Str.{bytes_eq}
 use Rattle.std.proofs.lemmas.Bool.{cond-true, cond-false, lt-ltb}
 use Rattle.ftpl.specs.declared.formulas.Leaf.{Leaf}
-use Rattle.ftpl.specs.declared.formulas.Leaves.{Leaves}
+use Rattle.ftpl.specs.declared.formulas.PerLeaf.{PerLeaf}
 use Rattle.ftpl.specs.declared.formulas.Slot.{Slot}
 use Rattle.ftpl.specs.declared.formulas.Trace.TheVariants.{At}
 use Rattle.book_text.specs.declared.parts.Stop.{Stop}
@@ -80,7 +80,7 @@ complete {n} (or_loose {p = p} {q = p₂} {f = f} {g = g} r s) b e k q c u =
     ∙ complete s b e (k + size f) q (omega (arith, a)) u
     ∙ ap (λ z. run n (done b e z) u) m
 
-pub fill_append : (l : Leaves) (k : ℕ) (xs ys : List Leaf) → fill l k (xs ++ ys) ≡ fill (fill l k xs) (k + length xs) ys
+pub fill_append : (l : PerLeaf Leaf) (k : ℕ) (xs ys : List Leaf) → fill l k (xs ++ ys) ≡ fill (fill l k xs) (k + length xs) ys
 fill_append l k [] ys = let m : k ≡ k + 0 = omega arith in ap (λ z. fill l z ys) m
 fill_append l k (x ∷ xs) ys = let m : k + 1 + length xs ≡ k + length (x ∷ xs) = omega arith in fill_append (put_leaf l k x) (k + 1) xs ys ∙ ap (λ z. fill (fill (put_leaf l k x) (k + 1) xs) z ys) m
 
@@ -116,7 +116,7 @@ module _ (n d e : ℕ) (b : Bool) (s : List Text) (a : Place) (some : 1 ≤ n) (
         (stuck_here {Q = λ p. Tracks n plain d a.count (leaf_text w ∷ p)} s (a.at + 1) tt (omega (arith, leaf_inside)) (decimal 1 ∷ [], (leaf (leaf_of w 1), a_leaf 1 w (omega arith) some, omega arith))
         (cond-false (is_up_to n (get_or s (a.at + 1) [])) _ dead (not_up_to n (get_or s (a.at + 1) []) f)))
 
-    pub took_leaf : n < 256 → (m : ℕ) → 1 ≤ m → m ≤ n → get_or s (a.at + 1) [] ≡ decimal m → (x : Slot) (l : Leaves) → x ≡ slot_at a.count → l ≡ put_leaf a.leaves a.count (leaf_of w m) → Took plain n d s a (record { trace = At x; place = record { at = a.at + 2; count = a.count + 1; leaves = l } })
+    pub took_leaf : n < 256 → (m : ℕ) → 1 ≤ m → m ≤ n → get_or s (a.at + 1) [] ≡ decimal m → (x : Slot) (l : PerLeaf Leaf) → x ≡ slot_at a.count → l ≡ put_leaf a.leaves a.count (leaf_of w m) → Took plain n d s a (record { trace = At x; place = record { at = a.at + 2; count = a.count + 1; leaves = l } })
     took_leaf v m h k q x l i j =
         let two = stands s (a.at + 1) (decimal m) (number_some m (omega arith)) q in
         let z : a.at + 1 + 1 ≡ a.at + 2 = omega arith in

@@ -3,7 +3,7 @@ use Rattle.std.specs.Prelude.{◌≡◌, ℕ, zero, suc, ◌+◌, ◌^◌, ◌�
 use Rattle.ftpl.specs.declared.formulas.EventList.{EventList}
 use Rattle.ftpl.specs.declared.formulas.Leaf.{Leaf}
 use Rattle.ftpl.specs.declared.formulas.Leaf.TheVariants.{Always}
-use Rattle.ftpl.specs.declared.formulas.Leaves.{Leaves}
+use Rattle.ftpl.specs.declared.formulas.PerLeaf.{PerLeaf}
 use Rattle.ftpl.specs.declared.formulas.Slot.{Slot}
 use Rattle.ftpl.specs.declared.formulas.Slot.TheVariants.{First, Second, Third, Fourth}
 use Rattle.ftpl.specs.declared.formulas.Trace.{Trace}
@@ -135,7 +135,7 @@ core_tree (before e f) = f
 core_tree (until f e) = f
 
 -- the four leaves: what no leaf of the trace fills repeats the first
-abbrev pub four : List Leaf → Leaves
+abbrev pub four : List Leaf → PerLeaf Leaf
 four [] = record { first = Always 0; second = Always 0; third = Always 0; fourth = Always 0 }
 four (x ∷ xs) = record { first = x; second = slice_index_or xs 0 x; third = slice_index_or xs 1 x; fourth = slice_index_or xs 2 x }
 

@@ -2,7 +2,7 @@
 use Rattle.std.specs.Prelude.{◌≡◌, ℕ, ◌+◌, ◌<◌, ◌≤◌, false, cond, ◌&&◌, List, [], ◌∷◌, ◌++◌, length, codes, ◌==◌, nat_lt, slice_index_or}
 use Rattle.std.specs.Str.{bytes_eq}
 use Rattle.ftpl.specs.declared.formulas.Leaf.{Leaf}
-use Rattle.ftpl.specs.declared.formulas.Leaves.{Leaves}
+use Rattle.ftpl.specs.declared.formulas.PerLeaf.{PerLeaf}
 use Rattle.book_text.specs.declared.parts.Stop.{Stop}
 use Rattle.book_text.specs.declared.parts.Stop.TheVariants.{Wrong, Memory}
 use Rattle.formula_text.specs.declared.places.Place.{Place}
@@ -37,14 +37,14 @@ pub record ListTook (s : List Text) (a : ℕ) (x : Events) : Type 0 where
   pub says : ListSays x.list (mid s a x.next)
 
 -- the leaves with the one after k others; the first of them stands for all
-abbrev pub put_leaf : Leaves → ℕ → Leaf → Leaves
+abbrev pub put_leaf : PerLeaf Leaf → ℕ → Leaf → PerLeaf Leaf
 put_leaf l k x =
     cond (k == 0) (record { first = x; second = x; third = x; fourth = x })
     (cond (k == 1) (record { first = l.first; second = x; third = l.third; fourth = l.fourth })
     (cond (k == 2) (record { first = l.first; second = l.second; third = x; fourth = l.fourth })
     (record { first = l.first; second = l.second; third = l.third; fourth = x })))
 
-abbrev pub fill : Leaves → ℕ → List Leaf → Leaves
+abbrev pub fill : PerLeaf Leaf → ℕ → List Leaf → PerLeaf Leaf
 fill l k [] = l
 fill l k (x ∷ xs) = fill (put_leaf l k x) (k + 1) xs
 

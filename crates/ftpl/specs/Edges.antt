@@ -15,7 +15,8 @@ use Rattle.ftpl.specs.declared.properties.Test.TheVariants.{AtMost}
 use Rattle.ftpl.specs.declared.properties.Tests.{Tests}
 use Rattle.ftpl.specs.declared.properties.Property.{Property}
 use Rattle.ftpl.specs.declared.formulas.EventList.{EventList}
-use Rattle.ftpl.specs.declared.formulas.Leaves.{Leaves}
+use Rattle.ftpl.specs.declared.formulas.Leaf.{Leaf}
+use Rattle.ftpl.specs.declared.formulas.PerLeaf.{PerLeaf}
 use Rattle.ftpl.specs.declared.formulas.Trace.{Trace}
 use Rattle.ftpl.specs.declared.formulas.Core.TheVariants.{Before, Until}
 
@@ -30,9 +31,9 @@ pub record TableEdges : Type 0 where
 
 pub record PathEdges {V : Type 0} (s : Ops V) : Type 0 where
   -- after a start at E, until the same E does not count that start
-  pub own_start : (ps : List Property) (p q : Position) (e : EventList) (l : Leaves) (t : Trace) → holds e p.event ≡ false → holds e q.event ≡ true → formula_value s ps (p ∷ q ∷ []) (record { first = Some e; second = None; third = None; core = Until t e; leaves = l }) 0 ≡ s.bottom
+  pub own_start : (ps : List Property) (p q : Position) (e : EventList) (l : PerLeaf Leaf) (t : Trace) → holds e p.event ≡ false → holds e q.event ≡ true → formula_value s ps (p ∷ q ∷ []) (record { first = Some e; second = None; third = None; core = Until t e; leaves = l }) 0 ≡ s.bottom
   -- before E on position 0 alone is top
-  pub alone : (ps : List Property) (p : Position) (e : EventList) (l : Leaves) (t : Trace) → formula_value s ps (p ∷ []) (record { first = None; second = None; third = None; core = Before e t; leaves = l }) 0 ≡ s.top
+  pub alone : (ps : List Property) (p : Position) (e : EventList) (l : PerLeaf Leaf) (t : Trace) → formula_value s ps (p ∷ []) (record { first = None; second = None; third = None; core = Before e t; leaves = l }) 0 ≡ s.top
 
 pub record Edges : Type 0 where
   pub tables : TableEdges

@@ -10,7 +10,7 @@ use Rattle.ftpl.specs.declared.formulas.Leaf.{Leaf}
 use Rattle.ftpl.specs.declared.formulas.Leaf.TheVariants.{Always, Eventually, Never}
 use Rattle.ftpl.specs.declared.formulas.Slot.{Slot}
 use Rattle.ftpl.specs.declared.formulas.Slot.TheVariants.{First, Second, Third, Fourth}
-use Rattle.ftpl.specs.declared.formulas.Leaves.{Leaves}
+use Rattle.ftpl.specs.declared.formulas.PerLeaf.{PerLeaf}
 use Rattle.ftpl.specs.declared.formulas.Trace.{Trace}
 use Rattle.ftpl.specs.declared.formulas.Trace.TheVariants.{At, Both', Either'}
 use Rattle.ftpl.specs.declared.formulas.Core.{Core}
@@ -22,7 +22,8 @@ pub record View (V : Type 0) : Type 0 where
   pub value : ℕ → V
   pub event : EventList → Bool
 
-abbrev pub leaf_at : Leaves → Slot → Leaf
+-- what is given for the leaf in a slot
+abbrev pub leaf_at : {T : Type 0} → PerLeaf T → Slot → T
 leaf_at l First = l.first
 leaf_at l Second = l.second
 leaf_at l Third = l.third
@@ -37,7 +38,7 @@ module _ {V : Type 0} (s : Ops V) (x : ℕ → View V) where
   leaf_over (Never a) i j = all s (map (λ k. s.turn ((x k).value a)) (from_to i j))
 
   -- a trace over the positions i to j
-  abbrev pub trace_over : Leaves → Trace → ℕ → ℕ → V
+  abbrev pub trace_over : PerLeaf Leaf → Trace → ℕ → ℕ → V
   trace_over l (At slot) i j = leaf_over (leaf_at l slot) i j
   trace_over l (Both' p a q b) i j = s.both (trace_over l a i j) (trace_over l b i j)
   trace_over l (Either' p a q b) i j = s.either (trace_over l a i j) (trace_over l b i j)
@@ -47,7 +48,7 @@ module _ {V : Type 0} (s : Ops V) (x : ℕ → View V) where
   where_holds e i n = those (λ k. (x k).event e) (from_to i n)
 
   -- from i to the last position n; `before` and `until` look at each k > i with E, and at the positions i to k − 1
-  abbrev pub core_from : Leaves → Core → ℕ → ℕ → V
+  abbrev pub core_from : PerLeaf Leaf → Core → ℕ → ℕ → V
   core_from l (Plain t) n i = trace_over l t i n
   core_from l (Before e t) n i = all s (map (λ k. trace_over l t i (k - 1)) (where_holds e (suc i) n))
   core_from l (Until t e) n i = some s (map (λ k. trace_over l t i (k - 1)) (where_holds e (suc i) n))

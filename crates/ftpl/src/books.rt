@@ -3,7 +3,7 @@ use crate::formulas::Formula;
 use crate::properties::Property;
 
 /// Properties, numbered from 1; the standing conditions, which are numbers of properties; formulas, numbered from 1.
-#[derive(Drop)]
+#[derive(PartialEq, Eq, Debug, Drop)]
 pub struct Book {
     pub properties: Vec<Property>,
     pub conditions: Vec<u8>,

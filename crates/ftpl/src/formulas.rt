@@ -1,7 +1,9 @@
 // What an event, a trace and a formula are.
+ghost use Rattle.std.specs.Prelude.{◌≡◌};
+ghost use Rattle.ftpl.specs.Formulas.{leaf_at};
 
 /// How an operation is recorded on the path.
-#[derive(Clone, Copy)]
+#[derive(Clone, Copy, PartialEq, Eq, Debug)]
 pub enum EventKind {
     /// it was opened
     Called,
@@ -12,7 +14,7 @@ pub enum EventKind {
 }
 
 /// What happened at a position of the path.
-#[derive(Clone, Copy)]
+#[derive(Clone, Copy, PartialEq, Eq, Debug)]
 pub struct Event {
     /// 0 to 63
     pub operation: u8,
@@ -21,7 +23,7 @@ pub struct Event {
 
 /// A list of events of the operations 1 to 63: bit k of a mask stands for operation k, bit 0 for none.
 /// `terminates` is both normal and exceptional.
-#[derive(Clone, Copy)]
+#[derive(Clone, Copy, PartialEq, Eq, Debug)]
 pub struct EventList {
     pub called: u64,
     pub normal: u64,
@@ -29,7 +31,7 @@ pub struct EventList {
 }
 
 /// What a leaf of a trace says of the property with this number, from 1.
-#[derive(Clone, Copy)]
+#[derive(Clone, Copy, PartialEq, Eq, Debug)]
 pub enum Leaf {
     Always(u8),
     Eventually(u8),
@@ -37,7 +39,7 @@ pub enum Leaf {
 }
 
 /// One of the four leaves of a trace.
-#[derive(Clone, Copy)]
+#[derive(Clone, Copy, PartialEq, Eq, Debug)]
 pub enum Slot {
     First,
     Second,
@@ -45,17 +47,34 @@ pub enum Slot {
     Fourth,
 }
 
+/// What is given for each of the four leaves of a trace.
+#[derive(Clone, Copy, PartialEq, Eq, Debug)]
+pub struct PerLeaf<T> {
+    pub first: T,
+    pub second: T,
+    pub third: T,
+    pub fourth: T,
+}
+
 /// The four leaves of a trace; what a slot that the trace does not name holds is of no account.
-#[derive(Clone, Copy)]
-pub struct Leaves {
-    pub first: Leaf,
-    pub second: Leaf,
-    pub third: Leaf,
-    pub fourth: Leaf,
+pub type Leaves = PerLeaf<Leaf>;
+
+impl<T: Copy> PerLeaf<T> {
+    /// What is given for the leaf in this slot.
+    pub fn at(&self, slot: Slot) -> T
+        ensures { result ≡ leaf_at self.now slot }
+    {
+        match slot {
+            Slot::First => self.first,
+            Slot::Second => self.second,
+            Slot::Third => self.third,
+            Slot::Fourth => self.fourth,
+        }
+    }
 }
 
 /// How the leaves are joined: `&` is both, `|` is either.
-#[derive(Drop)]
+#[derive(PartialEq, Eq, Debug, Drop)]
 pub enum Trace {
     At(Slot),
     Both(Box<Trace>, Box<Trace>),
@@ -63,7 +82,7 @@ pub enum Trace {
 }
 
 /// What a formula says behind its `after`s.
-#[derive(Drop)]
+#[derive(PartialEq, Eq, Debug, Drop)]
 pub enum Core {
     /// `T`
     Plain(Trace),
@@ -74,7 +93,7 @@ pub enum Core {
 }
 
 /// Up to three `after E`, the outermost first, then the core.
-#[derive(Drop)]
+#[derive(PartialEq, Eq, Debug, Drop)]
 pub struct Formula {
     pub first: Option<EventList>,
     pub second: Option<EventList>,

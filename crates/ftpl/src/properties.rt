@@ -1,7 +1,7 @@
 // What a property is.
 
 /// How the values at the rows that a variable runs over are joined.
-#[derive(Clone, Copy)]
+#[derive(Clone, Copy, PartialEq, Eq, Debug)]
 pub enum Quantifier {
     /// `all`: by both, top where there is no row
     ForAll,
@@ -9,21 +9,21 @@ pub enum Quantifier {
     Exists,
 }
 
-/// The kind of the rows that a variable runs over.
-#[derive(Clone, Copy)]
+/// The kind of the rows that a variable runs over; `as u8` is the number by which a row says its kind.
+#[derive(Clone, Copy, PartialEq, Eq, Debug)]
 pub enum VariableKind {
     /// `comp`
-    Component,
+    Component = 1,
     /// `prov`
-    Provided,
+    Provided = 2,
     /// `req`
-    Required,
+    Required = 3,
     /// `par`
-    Parameter,
+    Parameter = 4,
 }
 
 /// A variable of a property; in a property with one quantifier the inner one stands for no row.
-#[derive(Clone, Copy)]
+#[derive(Clone, Copy, PartialEq, Eq, Debug)]
 pub enum Variable {
     /// `v`, which the first quantifier binds
     Outer,
@@ -32,7 +32,7 @@ pub enum Variable {
 }
 
 /// One test of the rows that the variables stand for.
-#[derive(Clone, Copy)]
+#[derive(Clone, Copy, PartialEq, Eq, Debug)]
 pub enum Test {
     /// `name v T`: v is named T
     Named { subject: Variable, name: u64 },
@@ -53,7 +53,7 @@ pub enum Test {
 }
 
 /// Tests joined by `!`, `&` and `|`.
-#[derive(Drop)]
+#[derive(PartialEq, Eq, Debug, Drop)]
 pub enum Tests {
     Single(Test),
     Not(Box<Tests>),
@@ -62,14 +62,14 @@ pub enum Tests {
 }
 
 /// A quantifier with the kind of the rows that its variable runs over.
-#[derive(Clone, Copy)]
+#[derive(Clone, Copy, PartialEq, Eq, Debug)]
 pub struct Binder {
     pub quantifier: Quantifier,
     pub kind: VariableKind,
 }
 
 /// A property of a table: one or two quantified variables, then tests.
-#[derive(Drop)]
+#[derive(PartialEq, Eq, Debug, Drop)]
 pub struct Property {
     /// binds v
     pub outer: Binder,

@@ -4,7 +4,7 @@ ghost use Rattle.host.specs.Tables.{row_at};
 ghost use Rattle.ftpl.specs.Properties.{kind_number, place_of, margin as margin_of, verdict as verdict_of, test_value, tests_value, joined_by, pair_by, quantified, value_at, property_value, numbered_value, first_broken};
 
 use crate::properties::{Binder, Property, Quantifier, Test, Tests, Variable, VariableKind};
-use host::{COMPONENT, Host, NONE, PARAMETER, PROVIDED, REQUIRED, row_at, same_name};
+use host::{Host, NONE, row_at, same_name};
 use scale::Scale;
 
 fn place_of(v: u8, w: u8, variable: Variable) -> u8
@@ -87,21 +87,10 @@ fn tests_value<H: Host, S: Scale>(host: &H, v: u8, w: u8, tests: &Tests) -> S
     }
 }
 
-fn kind_number(kind: VariableKind) -> u8
-    ensures { result ≡ kind_number kind }
-{
-    match kind {
-        VariableKind::Component => COMPONENT,
-        VariableKind::Provided => PROVIDED,
-        VariableKind::Required => REQUIRED,
-        VariableKind::Parameter => PARAMETER,
-    }
-}
-
 fn is_of_kind<H: Host>(host: &H, place: u8, kind: VariableKind) -> bool
     ensures { result ≡ ((row_at (H.Host.rows host.now) place).kind == kind_number kind) }
 {
-    row_at(host, place).kind == kind_number(kind)
+    row_at(host, place).kind == kind as u8
 }
 
 /// The value of no row.

@@ -8,13 +8,12 @@ use Rattle.ftpl.specs.declared.formulas.Slot.{Slot}
 use Rattle.ftpl.specs.declared.formulas.Slot.TheVariants.{First, Second, Third, Fourth}
 use Rattle.ftpl.specs.declared.formulas.Leaf.{Leaf}
 use Rattle.ftpl.specs.declared.formulas.Leaf.TheVariants.{Always, Eventually, Never}
-use Rattle.ftpl.specs.declared.formulas.Leaves.{Leaves}
+use Rattle.ftpl.specs.declared.formulas.PerLeaf.{PerLeaf}
 use Rattle.ftpl.specs.declared.formulas.Trace.{Trace}
 use Rattle.ftpl.specs.declared.formulas.Trace.TheVariants.{At, Both', Either'}
 use Rattle.ftpl.specs.declared.formulas.Core.{Core}
 use Rattle.ftpl.specs.declared.formulas.Core.TheVariants.{Plain, Before, Until}
 use Rattle.ftpl.specs.declared.formulas.EventList.{EventList}
-use Rattle.monitor.specs.declared.leaf_values.LeafValues.{LeafValues}
 use Rattle.monitor.proofs.Lattice.{either_assoc, top_either, either_top, both_top, dist_right, both_cross}
 
 abbrev pub meet : {V K : Type 0} → Ops V → (K → V) → (K → V) → K → V
@@ -41,19 +40,19 @@ abbrev pub spawned : {V : Type 0} → Ops V → (List (View V) → V) → List (
 spawned s f [] = s.top
 spawned s f (y ∷ r) = s.both (s.either y.lock (f (y.at ∷ places r))) (spawned s f r)
 
-abbrev pub goes : {V : Type 0} → Ops V → Leaves → Core → (Cell → V) → List (Locked V) → Cell → V
+abbrev pub goes : {V : Type 0} → Ops V → PerLeaf Leaf → Core → (Cell → V) → List (Locked V) → Cell → V
 goes s l c b [] = b
 goes s l c b (y ∷ r) = goes s l c (go s l c y.lock y.at b) r
 
-abbrev pub advance : {V : Type 0} → Ops V → Leaves → Core → View V → (Cell → V) → Cell → V
+abbrev pub advance : {V : Type 0} → Ops V → PerLeaf Leaf → Core → View V → (Cell → V) → Cell → V
 advance s l c x b = extend_all s l (told_by x l) (happen s c x.event b)
 
-abbrev pub advances : {V : Type 0} → Ops V → Leaves → Core → (Cell → V) → List (View V) → Cell → V
+abbrev pub advances : {V : Type 0} → Ops V → PerLeaf Leaf → Core → (Cell → V) → List (View V) → Cell → V
 advances s l c b [] = b
 advances s l c b (x ∷ xs) = advances s l c (advance s l c x b) xs
 
 -- the value of the one start at the first position
-abbrev pub single : {V : Type 0} → Ops V → Leaves → Core → List (View V) → V
+abbrev pub single : {V : Type 0} → Ops V → PerLeaf Leaf → Core → List (View V) → V
 single s l c [] = s.top
 single s l c (x ∷ xs) = readout s c (advances s l c (extend_all s l (told_by x l) (blank s l)) xs)
 
@@ -103,7 +102,7 @@ module _ {V : Type 0} {s : Ops V} (p : Laws s) where
   extend_linear j l x (clause c) = cond_linear (c j) (grown_linear l x (cell_linear (clause c)) (cell_linear (clause (without j c)))) (cell_linear (clause c))
   extend_linear j l x kept = cell_linear kept
 
-  pub extend_all_linear : (l : Leaves) (x : LeafValues V) (k : Cell) → Linear s (λ b. extend_all s l x b k)
+  pub extend_all_linear : (l : PerLeaf Leaf) (x : PerLeaf V) (k : Cell) → Linear s (λ b. extend_all s l x b k)
   extend_all_linear l x k =
       through (extend_linear Fourth l.fourth x.fourth k) (λ i.
       through (extend_linear Third l.third x.third i) (λ m.
@@ -123,22 +122,22 @@ module _ {V : Type 0} {s : Ops V} (p : Laws s) where
   readout_linear (Before e t) = cell_linear kept
   readout_linear (Until t e) = cell_linear (clause none)
 
-  pub advance_linear : (l : Leaves) (c : Core) (x : View V) (k : Cell) → Linear s (λ b. advance s l c x b k)
+  pub advance_linear : (l : PerLeaf Leaf) (c : Core) (x : View V) (k : Cell) → Linear s (λ b. advance s l c x b k)
   advance_linear l c x k = through (extend_all_linear l (told_by x l) k) (λ i. happen_linear c x.event i)
 
-  pub advances_linear : (l : Leaves) (c : Core) (xs : List (View V)) (k : Cell) → Linear s (λ b. advances s l c b xs k)
+  pub advances_linear : (l : PerLeaf Leaf) (c : Core) (xs : List (View V)) (k : Cell) → Linear s (λ b. advances s l c b xs k)
   advances_linear l c [] k = cell_linear k
   advances_linear l c (x ∷ xs) k = through (advances_linear l c xs k) (λ i. advance_linear l c x i)
 
-  launch_cell : (l : Leaves) (h : V) (b : Cell → V) (k : Cell) → launch s l h b k ≡ meet s b (behind s h (blank s l)) k
+  launch_cell : (l : PerLeaf Leaf) (h : V) (b : Cell → V) (k : Cell) → launch s l h b k ≡ meet s b (behind s h (blank s l)) k
   launch_cell l h b (clause c) = refl
   launch_cell l h b kept = sym (ap (s.both (b kept)) (either_top p h) ∙ both_top p (b kept))
 
-  go_meet : (l : Leaves) (c : Core) (h : V) (x : View V) (b : Cell → V) → go s l c h x b ≡ extend_all s l (told_by x l) (meet s (happen s c x.event b) (behind s h (blank s l)))
+  go_meet : (l : PerLeaf Leaf) (c : Core) (h : V) (x : View V) (b : Cell → V) → go s l c h x b ≡ extend_all s l (told_by x l) (meet s (happen s c x.event b) (behind s h (blank s l)))
   go_meet l c h x b = ap (extend_all s l (told_by x l)) (fun_ext (launch_cell l h (happen s c x.event b)))
 
   -- a step on two states at once
-  go_split : (l : Leaves) (c : Core) (h : V) (x : View V) (a b : Cell → V) → go s l c h x (meet s a b) ≡ meet s (advance s l c x a) (go s l c h x b)
+  go_split : (l : PerLeaf Leaf) (c : Core) (h : V) (x : View V) (a b : Cell → V) → go s l c h x (meet s a b) ≡ meet s (advance s l c x a) (go s l c h x b)
   go_split l c h x a b = go_meet l c h x (meet s a b) ∙ fun_ext (λ k.
       let e = extend_all_linear l (told_by x l) k in
       let new = behind s h (blank s l) in
@@ -148,12 +147,12 @@ module _ {V : Type 0} {s : Ops V} (p : Laws s) where
       ∙ ap (s.both (advance s l c x a k)) (sym (e.meets (happen s c x.event b) new)))
       ∙ ap (meet s (advance s l c x a)) (sym (go_meet l c h x b))
 
-  goes_split : (l : Leaves) (c : Core) (a b : Cell → V) (r : List (Locked V)) → goes s l c (meet s a b) r ≡ meet s (advances s l c a (places r)) (goes s l c b r)
+  goes_split : (l : PerLeaf Leaf) (c : Core) (a b : Cell → V) (r : List (Locked V)) → goes s l c (meet s a b) r ≡ meet s (advances s l c a (places r)) (goes s l c b r)
   goes_split l c a b [] = refl
   goes_split l c a b (y ∷ r) = ap (λ u. goes s l c u r) (go_split l c y.lock y.at a b) ∙ goes_split l c (advance s l c y.at a) (go s l c y.lock y.at b) r
 
   -- the first step from nothing: the start alone
-  go_none : (l : Leaves) (c : Core) (h : V) (x : View V) → go s l c h x (λ k. s.top) ≡ meet s (behind s h (extend_all s l (told_by x l) (blank s l))) (λ k. s.top)
+  go_none : (l : PerLeaf Leaf) (c : Core) (h : V) (x : View V) → go s l c h x (λ k. s.top) ≡ meet s (behind s h (extend_all s l (told_by x l) (blank s l))) (λ k. s.top)
   go_none l c h x = go_meet l c h x (λ k. s.top) ∙ fun_ext (λ k.
       let e = extend_all_linear l (told_by x l) k in
       e.meets (happen s c x.event (λ i. s.top)) (behind s h (blank s l))
@@ -161,7 +160,7 @@ module _ {V : Type 0} {s : Ops V} (p : Laws s) where
       ∙ p.both_comm s.top (s.either h (extend_all s l (told_by x l) (blank s l) k)))
 
   -- what all starts come to
-  pub goes_value : (l : Leaves) (c : Core) (r : List (Locked V)) → readout s c (goes s l c (λ k. s.top) r) ≡ spawned s (single s l c) r
+  pub goes_value : (l : PerLeaf Leaf) (c : Core) (r : List (Locked V)) → readout s c (goes s l c (λ k. s.top) r) ≡ spawned s (single s l c) r
   goes_value l c [] = linear_top (readout_linear c)
   goes_value l c (y ∷ r) =
       let start = extend_all s l (told_by y.at l) (blank s l) in

@@ -6,12 +6,12 @@ use Rattle.monitor.specs.Monitor.{Set, Cell, clause, kept, none, absorb, lengthe
 use Rattle.monitor.specs.Layout.{mask, clauses, cells_of, viewed, Locked}
 use Rattle.ftpl.specs.declared.formulas.EventList.{EventList}
 use Rattle.ftpl.specs.declared.formulas.Slot.TheVariants.{First, Second, Third, Fourth}
-use Rattle.ftpl.specs.declared.formulas.Leaves.{Leaves}
+use Rattle.ftpl.specs.declared.formulas.Leaf.{Leaf}
+use Rattle.ftpl.specs.declared.formulas.PerLeaf.{PerLeaf}
 use Rattle.ftpl.specs.declared.formulas.Trace.{Trace}
 use Rattle.ftpl.specs.declared.formulas.Core.{Core}
 use Rattle.ftpl.specs.declared.formulas.Core.TheVariants.{Plain, Before, Until}
 use Rattle.ftpl.specs.declared.formulas.Formula.{Formula}
-use Rattle.monitor.specs.declared.leaf_values.LeafValues.{LeafValues}
 use Rattle.monitor.proofs.Masks.{mask_small}
 
 module _ {V : Type 0} (s : Ops V) where
@@ -29,7 +29,7 @@ module _ {V : Type 0} (s : Ops V) where
   pub plain_read : {core : Core} {t : Trace} (w : Set → V) (q : V) {r : V} {a : Set → V} → core ≡ Plain t → r ≡ a none → a ≡ absorb s t w → r ≡ read_row s core w q
   plain_read w q is f g = f ∙ ap (λ (u : Set → V). u none) g ∙ sym (ap (λ k. read_row s k w q) is)
 
-  pub row_made : (l : Leaves) (c : Core) (h : V) (y : LeafValues V) (event : EventList → Bool) (w : Set → V) {w₀ w₁ w₂ w₃ w₄ w₅ : Set → V}
+  pub row_made : (l : PerLeaf Leaf) (c : Core) (h : V) (y : PerLeaf V) (event : EventList → Bool) (w : Set → V) {w₀ w₁ w₂ w₃ w₄ w₅ : Set → V}
       → w₀ ≡ happen_row s c event w
       → w₁ ≡ launch_row s l h w₀
       → w₂ ≡ lengthen s First l.first y.first w₁
@@ -41,7 +41,7 @@ module _ {V : Type 0} (s : Ops V) where
       e₅ ∙ ap (lengthen s Fourth l.fourth y.fourth) (e₄ ∙ ap (lengthen s Third l.third y.third) (e₃ ∙ ap (lengthen s Second l.second y.second) (e₂ ∙ ap (lengthen s First l.first y.first) (e₁ ∙ ap (launch_row s l h) e₀))))
 
   -- the row and the value beside it, written to a board b
-  pub cells_made : (l : Leaves) (c : Core) (h : V) (v : LeafValues V) (event : EventList → Bool) (b e : List V) {q y : V} {w r : Set → V}
+  pub cells_made : (l : PerLeaf Leaf) (c : Core) (h : V) (v : PerLeaf V) (event : EventList → Bool) (b e : List V) {q y : V} {w r : Set → V}
       → 16 < length b
       → w ≡ clauses s b
       → y ≡ get_or b 16 s.top
@@ -56,7 +56,7 @@ module _ {V : Type 0} (s : Ops V) where
       at (clause i) = ap (λ (u : Set → V). u i) (e₅ ∙ e₄ ∙ ap (go_row s l c h v event) e₁)
       at kept = e₆ ∙ get_or-set_same b 16 q s.top long ∙ e₃ ∙ ap₂ (happen_kept s c event) e₁ e₂
 
-  pub state_made : (f : Formula) (v : LeafValues V) (event : EventList → Bool) (b₀ b₁ b₂ : List V) {fresh one two three h₁ h₂ h₃ o₁ o₂ o₃ : V}
+  pub state_made : (f : Formula) (v : PerLeaf V) (event : EventList → Bool) (b₀ b₁ b₂ : List V) {fresh one two three h₁ h₂ h₃ o₁ o₂ o₃ : V}
       → fresh ≡ get_or b₀ 17 s.top → one ≡ get_or b₀ 18 s.top → two ≡ get_or b₀ 19 s.top → three ≡ get_or b₀ 20 s.top
       → h₁ ≡ passed s f.first event one fresh
       → h₂ ≡ passed s f.second event two h₁

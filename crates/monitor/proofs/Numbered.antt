@@ -6,7 +6,7 @@ use Rattle.ftpl.specs.Formulas.{View, leaf_at, leaf_over, trace_over, core_from,
 use Rattle.ftpl.specs.declared.formulas.EventList.{EventList}
 use Rattle.ftpl.specs.declared.formulas.Leaf.{Leaf}
 use Rattle.ftpl.specs.declared.formulas.Leaf.TheVariants.{Always, Eventually, Never}
-use Rattle.ftpl.specs.declared.formulas.Leaves.{Leaves}
+use Rattle.ftpl.specs.declared.formulas.PerLeaf.{PerLeaf}
 use Rattle.ftpl.specs.declared.formulas.Trace.{Trace}
 use Rattle.ftpl.specs.declared.formulas.Trace.TheVariants.{At, Both', Either'}
 use Rattle.ftpl.specs.declared.formulas.Core.{Core}
@@ -51,18 +51,18 @@ module _ {V : Type 0} (s : Ops V) (x : ℕ → View V) where
   leaf_over_lem (Eventually a) i j = ap (some s) (map_over (λ y. y.value a) i (suc j - i))
   leaf_over_lem (Never a) i j = ap (all s) (map_over (λ y. s.turn (y.value a)) i (suc j - i))
 
-  trace_over_lem : (l : Leaves) (t : Trace) (i j : ℕ) → trace_over s x l t i j ≡ trace s l t (segment x i (suc j - i))
+  trace_over_lem : (l : PerLeaf Leaf) (t : Trace) (i j : ℕ) → trace_over s x l t i j ≡ trace s l t (segment x i (suc j - i))
   trace_over_lem l (At k) i j = leaf_over_lem (leaf_at l k) i j
   trace_over_lem l (Both' q a r b) i j = ap₂ s.both (trace_over_lem l a i j) (trace_over_lem l b i j)
   trace_over_lem l (Either' q a r b) i j = ap₂ s.either (trace_over_lem l a i j) (trace_over_lem l b i j)
 
   -- the trace over the d positions from i on, right before the event at i + d
-  here : (l : Leaves) (t : Trace) (i d : ℕ) → trace_over s x l t i ((i + suc d) - 1) ≡ trace s l t (segment x i (suc d))
+  here : (l : PerLeaf Leaf) (t : Trace) (i d : ℕ) → trace_over s x l t i ((i + suc d) - 1) ≡ trace s l t (segment x i (suc d))
   here l t i d =
       let e : suc ((i + suc d) - 1) - i ≡ suc d = omega arith in
       trace_over_lem l t i ((i + suc d) - 1) ∙ ap (λ m. trace s l t (segment x i m)) e
 
-  ends_over : (l : Leaves) (t : Trace) (e : EventList) (i d r : ℕ) → map (λ k. trace_over s x l t i (k - 1)) (those (λ k. (x k).event e) (numbers (i + suc d) r)) ≡ map (trace s l t) (ends e (segment x i (suc d)) (segment x (i + suc d) r))
+  ends_over : (l : PerLeaf Leaf) (t : Trace) (e : EventList) (i d r : ℕ) → map (λ k. trace_over s x l t i (k - 1)) (those (λ k. (x k).event e) (numbers (i + suc d) r)) ≡ map (trace s l t) (ends e (segment x i (suc d)) (segment x (i + suc d) r))
   ends_over l t e i d zero = refl
   ends_over l t e i d (suc r) =
       let on : suc (i + suc d) ≡ i + suc (suc d) = omega arith in
@@ -75,7 +75,7 @@ module _ {V : Type 0} (s : Ops V) (x : ℕ → View V) where
       ∙ ap₂ (λ (u : List (View V)) (k : ℕ). map (trace s l t) (ends e u (segment x k r))) (sym (segment_more x i (suc d))) (sym on))
 
   -- from the first position of a core on
-  ends_from : (l : Leaves) (t : Trace) (e : EventList) (n i : ℕ) → i ≤ n → map (λ k. trace_over s x l t i (k - 1)) (those (λ k. (x k).event e) (from_to (suc i) n)) ≡ map (trace s l t) (ends e (x i ∷ []) (segment x (suc i) (n - i)))
+  ends_from : (l : PerLeaf Leaf) (t : Trace) (e : EventList) (n i : ℕ) → i ≤ n → map (λ k. trace_over s x l t i (k - 1)) (those (λ k. (x k).event e) (from_to (suc i) n)) ≡ map (trace s l t) (ends e (x i ∷ []) (segment x (suc i) (n - i)))
   ends_from l t e n i h =
       let one : i + 1 ≡ suc i = omega arith in
       let size : suc n - suc i ≡ n - i = omega arith in
@@ -83,7 +83,7 @@ module _ {V : Type 0} (s : Ops V) (x : ℕ → View V) where
       ∙ ends_over l t e i 0 (n - i)
       ∙ ap (λ k. map (trace s l t) (ends e (x i ∷ []) (segment x k (n - i)))) one
 
-  core_over : (l : Leaves) (c : Core) (n i : ℕ) → i ≤ n → core_from s x l c n i ≡ core s l c (segment x i (suc n - i))
+  core_over : (l : PerLeaf Leaf) (c : Core) (n i : ℕ) → i ≤ n → core_from s x l c n i ≡ core s l c (segment x i (suc n - i))
   core_over l c n i h = let e : suc n - i ≡ suc (n - i) = omega arith in at c e ∙ ap (λ m. core s l c (segment x i m)) (sym e)
     where
       at : (c : Core) → suc n - i ≡ suc (n - i) → core_from s x l c n i ≡ core s l c (segment x i (suc (n - i)))

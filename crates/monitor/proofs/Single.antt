@@ -10,7 +10,7 @@ use Rattle.ftpl.specs.declared.formulas.Slot.{Slot}
 use Rattle.ftpl.specs.declared.formulas.Slot.TheVariants.{First, Second, Third, Fourth}
 use Rattle.ftpl.specs.declared.formulas.Leaf.{Leaf}
 use Rattle.ftpl.specs.declared.formulas.Leaf.TheVariants.{Always, Eventually, Never}
-use Rattle.ftpl.specs.declared.formulas.Leaves.{Leaves}
+use Rattle.ftpl.specs.declared.formulas.PerLeaf.{PerLeaf}
 use Rattle.ftpl.specs.declared.formulas.Trace.{Trace}
 use Rattle.ftpl.specs.declared.formulas.Trace.TheVariants.{At, Both', Either'}
 use Rattle.ftpl.specs.declared.formulas.Core.{Core}
@@ -28,7 +28,7 @@ joins s (Eventually a) x u = s.either u (x.value a)
 joins s (Never a) x u = s.both u (s.turn (x.value a))
 
 -- what the leaves say of the positions seen
-abbrev says : {V : Type 0} → Ops V → Leaves → List (View V) → Slot → V
+abbrev says : {V : Type 0} → Ops V → PerLeaf Leaf → List (View V) → Slot → V
 says s l seen j = leaf s (leaf_at l j) seen
 
 abbrev holds : {V : Type 0} → Ops V → V → V → (Slot → V) → Cell → V
@@ -85,7 +85,7 @@ module _ {V : Type 0} {s : Ops V} (p : Laws s) where
   joined_with : (j : Slot) (c : Set) (v : Slot → V) → joined s (with j c) v ≡ s.either (joined s c v) (v j)
   joined_with j c v = cc (apart_with j c v, twice (c j) (joined s (without j c) v) (v j), apart j c v)
 
-  absorb_holds : (l : Leaves) (seen : List (View V)) (t : Trace) (z : V) (c : Set) → absorb s t (λ d. s.either z (joined s d (says s l seen))) c ≡ s.either (s.either z (trace s l t seen)) (joined s c (says s l seen))
+  absorb_holds : (l : PerLeaf Leaf) (seen : List (View V)) (t : Trace) (z : V) (c : Set) → absorb s t (λ d. s.either z (joined s d (says s l seen))) c ≡ s.either (s.either z (trace s l t seen)) (joined s c (says s l seen))
   absorb_holds l seen (At j) z c =
       let u = leaf s (leaf_at l j) seen in
       let r = joined s c (says s l seen) in
@@ -131,7 +131,7 @@ module _ {V : Type 0} {s : Ops V} (p : Laws s) where
   leaf_more (Eventually a) xs x = sym (some_more (λ y. y.value a) xs x)
   leaf_more (Never a) xs x = sym (all_more (λ y. s.turn (y.value a)) xs x)
 
-  more : (l : Leaves) (x : View V) (seen : List (View V)) (i : Slot) →
+  more : (l : PerLeaf Leaf) (x : View V) (seen : List (View V)) (i : Slot) →
       put Fourth (joins s l.fourth x (says s l seen Fourth)) (put Third (joins s l.third x (says s l seen Third)) (put Second (joins s l.second x (says s l seen Second)) (put First (joins s l.first x (says s l seen First)) (says s l seen)))) i
       ≡ says s l (seen ++ (x ∷ [])) i
   more l x seen First = leaf_more l.first seen x
@@ -139,7 +139,7 @@ module _ {V : Type 0} {s : Ops V} (p : Laws s) where
   more l x seen Third = leaf_more l.third seen x
   more l x seen Fourth = leaf_more l.fourth seen x
 
-  pub extend_holds : (l : Leaves) (x : View V) (q z : V) (seen : List (View V)) → extend_all s l (told_by x l) (holds s q z (says s l seen)) ≡ holds s q z (says s l (seen ++ (x ∷ [])))
+  pub extend_holds : (l : PerLeaf Leaf) (x : View V) (q z : V) (seen : List (View V)) → extend_all s l (told_by x l) (holds s q z (says s l seen)) ≡ holds s q z (says s l (seen ++ (x ∷ [])))
   extend_holds l x q z seen =
       let v₀ = says s l seen in
       let v₁ = put First (joins s l.first x (v₀ First)) v₀ in
@@ -151,7 +151,7 @@ module _ {V : Type 0} {s : Ops V} (p : Laws s) where
       ∙ fun_ext (extend_cell Fourth l.fourth x q z v₃)
       ∙ ap (holds s q z) (fun_ext (more l x seen))
 
-  blank_cell : (l : Leaves) (k : Cell) → blank s l k ≡ holds s s.top s.bottom (says s l []) k
+  blank_cell : (l : PerLeaf Leaf) (k : Cell) → blank s l k ≡ holds s s.top s.bottom (says s l []) k
   blank_cell l (clause c) = sym (bottom_either p (joined s c (says s l [])))
   blank_cell l kept = refl
 
@@ -159,14 +159,14 @@ module _ {V : Type 0} {s : Ops V} (p : Laws s) where
   joined_none v = cc (bottom_either p s.bottom)
 
   -- the trace over what was seen, joined to z
-  absorbed : (l : Leaves) (t : Trace) (seen : List (View V)) (z : V) → absorb s t (λ d. s.either z (joined s d (says s l seen))) none ≡ s.either z (trace s l t seen)
+  absorbed : (l : PerLeaf Leaf) (t : Trace) (seen : List (View V)) (z : V) → absorb s t (λ d. s.either z (joined s d (says s l seen))) none ≡ s.either z (trace s l t seen)
   absorbed l t seen z = absorb_holds l seen t z none ∙ ap (s.either (s.either z (trace s l t seen))) (joined_none (says s l seen)) ∙ either_bottom p (s.either z (trace s l t seen))
 
-  plain_cell : (l : Leaves) (t : Trace) (x : View V) (seen : List (View V)) (k : Cell) → happen s (Plain t) x.event (holds s s.top s.bottom (says s l seen)) k ≡ holds s s.top s.bottom (says s l seen) k
+  plain_cell : (l : PerLeaf Leaf) (t : Trace) (x : View V) (seen : List (View V)) (k : Cell) → happen s (Plain t) x.event (holds s s.top s.bottom (says s l seen)) k ≡ holds s s.top s.bottom (says s l seen) k
   plain_cell l t x seen (clause c) = refl
   plain_cell l t x seen kept = refl
 
-  plain : (l : Leaves) (t : Trace) (seen xs : List (View V)) → readout s (Plain t) (advances s l (Plain t) (holds s s.top s.bottom (says s l seen)) xs) ≡ trace s l t (seen ++ xs)
+  plain : (l : PerLeaf Leaf) (t : Trace) (seen xs : List (View V)) → readout s (Plain t) (advances s l (Plain t) (holds s s.top s.bottom (says s l seen)) xs) ≡ trace s l t (seen ++ xs)
   plain l t seen [] = absorbed l t seen s.bottom ∙ bottom_either p (trace s l t seen) ∙ ap (trace s l t) (sym (append-nil seen))
   plain l t seen (x ∷ xs) =
       ap (λ b. readout s (Plain t) (advances s l (Plain t) (extend_all s l (told_by x l) b) xs)) (fun_ext (plain_cell l t x seen))
@@ -186,11 +186,11 @@ module _ {V : Type 0} {s : Ops V} (p : Laws s) where
   at_bool true a a' z z' r e f = e
   at_bool false a a' z z' r e f = f
 
-  before_cell : (l : Leaves) (e : EventList) (t : Trace) (x : View V) (q : V) (seen : List (View V)) (k : Cell) → happen s (Before e t) x.event (holds s q s.bottom (says s l seen)) k ≡ holds s (cond (x.event e) (s.both q (trace s l t seen)) q) s.bottom (says s l seen) k
+  before_cell : (l : PerLeaf Leaf) (e : EventList) (t : Trace) (x : View V) (q : V) (seen : List (View V)) (k : Cell) → happen s (Before e t) x.event (holds s q s.bottom (says s l seen)) k ≡ holds s (cond (x.event e) (s.both q (trace s l t seen)) q) s.bottom (says s l seen) k
   before_cell l e t x q seen (clause c) = refl
   before_cell l e t x q seen kept = ap (λ u. cond (x.event e) (s.both q u) q) (absorbed l t seen s.bottom ∙ bottom_either p (trace s l t seen))
 
-  before : (l : Leaves) (e : EventList) (t : Trace) (q : V) (seen xs : List (View V)) → readout s (Before e t) (advances s l (Before e t) (holds s q s.bottom (says s l seen)) xs) ≡ s.both q (all s (map (trace s l t) (ends e seen xs)))
+  before : (l : PerLeaf Leaf) (e : EventList) (t : Trace) (q : V) (seen xs : List (View V)) → readout s (Before e t) (advances s l (Before e t) (holds s q s.bottom (says s l seen)) xs) ≡ s.both q (all s (map (trace s l t) (ends e seen xs)))
   before l e t q seen [] = sym (both_top p q)
   before l e t q seen (x ∷ xs) =
       let q' = cond (x.event e) (s.both q (trace s l t seen)) q in
@@ -199,11 +199,11 @@ module _ {V : Type 0} {s : Ops V} (p : Laws s) where
       ∙ before l e t q' (seen ++ (x ∷ [])) xs
       ∙ kept_more (trace s l t) (x.event e) q seen (ends e (seen ++ (x ∷ [])) xs)
 
-  until_cell : (l : Leaves) (e : EventList) (t : Trace) (x : View V) (z : V) (seen : List (View V)) (k : Cell) → happen s (Until t e) x.event (holds s s.top z (says s l seen)) k ≡ holds s s.top (cond (x.event e) (s.either z (trace s l t seen)) z) (says s l seen) k
+  until_cell : (l : PerLeaf Leaf) (e : EventList) (t : Trace) (x : View V) (z : V) (seen : List (View V)) (k : Cell) → happen s (Until t e) x.event (holds s s.top z (says s l seen)) k ≡ holds s s.top (cond (x.event e) (s.either z (trace s l t seen)) z) (says s l seen) k
   until_cell l e t x z seen (clause c) = at_bool (x.event e) _ _ _ _ _ (absorb_holds l seen t z c) refl
   until_cell l e t x z seen kept = refl
 
-  until : (l : Leaves) (e : EventList) (t : Trace) (z : V) (seen xs : List (View V)) → readout s (Until t e) (advances s l (Until t e) (holds s s.top z (says s l seen)) xs) ≡ s.either z (some s (map (trace s l t) (ends e seen xs)))
+  until : (l : PerLeaf Leaf) (e : EventList) (t : Trace) (z : V) (seen xs : List (View V)) → readout s (Until t e) (advances s l (Until t e) (holds s s.top z (says s l seen)) xs) ≡ s.either z (some s (map (trace s l t) (ends e seen xs)))
   until l e t z seen [] = ap (s.either z) (joined_none (says s l seen))
   until l e t z seen (x ∷ xs) =
       let z' = cond (x.event e) (s.either z (trace s l t seen)) z in
@@ -212,15 +212,15 @@ module _ {V : Type 0} {s : Ops V} (p : Laws s) where
       ∙ until l e t z' (seen ++ (x ∷ [])) xs
       ∙ joined_more (trace s l t) (x.event e) z seen (ends e (seen ++ (x ∷ [])) xs)
 
-  first : (l : Leaves) (x : View V) → extend_all s l (told_by x l) (blank s l) ≡ holds s s.top s.bottom (says s l (x ∷ []))
+  first : (l : PerLeaf Leaf) (x : View V) → extend_all s l (told_by x l) (blank s l) ≡ holds s s.top s.bottom (says s l (x ∷ []))
   first l x = ap (extend_all s l (told_by x l)) (fun_ext (blank_cell l)) ∙ extend_holds l x s.top s.bottom []
 
-  from_first : (l : Leaves) (c : Core) (x : View V) (xs : List (View V)) → readout s c (advances s l c (holds s s.top s.bottom (says s l (x ∷ []))) xs) ≡ core s l c (x ∷ xs)
+  from_first : (l : PerLeaf Leaf) (c : Core) (x : View V) (xs : List (View V)) → readout s c (advances s l c (holds s s.top s.bottom (says s l (x ∷ []))) xs) ≡ core s l c (x ∷ xs)
   from_first l (Plain t) x xs = plain l t (x ∷ []) xs
   from_first l (Before e t) x xs = before l e t s.top (x ∷ []) xs ∙ p.top_both (core s l (Before e t) (x ∷ xs))
   from_first l (Until t e) x xs = until l e t s.bottom (x ∷ []) xs ∙ bottom_either p (core s l (Until t e) (x ∷ xs))
 
   -- one start comes to what the core says from there
-  pub single_core : (l : Leaves) (c : Core) (xs : List (View V)) → single s l c xs ≡ core s l c xs
+  pub single_core : (l : PerLeaf Leaf) (c : Core) (xs : List (View V)) → single s l c xs ≡ core s l c xs
   single_core l c [] = refl
   single_core l c (x ∷ xs) = ap (λ b. readout s c (advances s l c b xs)) (first l x) ∙ from_first l c x xs

@@ -11,9 +11,9 @@ use Rattle.ftpl.specs.Formulas.{seen, leaf_at, shown_value}
 use Rattle.ftpl.specs.declared.books.Book.{Book}
 use Rattle.ftpl.specs.declared.properties.Property.{Property}
 use Rattle.ftpl.specs.declared.formulas.Formula.{Formula}
-use Rattle.ftpl.specs.declared.formulas.Leaves.{Leaves}
+use Rattle.ftpl.specs.declared.formulas.Leaf.{Leaf}
+use Rattle.ftpl.specs.declared.formulas.PerLeaf.{PerLeaf}
 use Rattle.ftpl.specs.declared.formulas.Slot.{Slot}
-use Rattle.monitor.specs.declared.leaf_values.LeafValues.{LeafValues}
 use Rattle.monitor.specs.Monitor.{State, begin, run, number_of, told_by}
 use Rattle.monitor.specs.Layout.{viewed}
 
@@ -39,7 +39,7 @@ module _ {V : Type 0} (s : Ops V) where
   abbrev pub working_value : List V → ℕ → V
   working_value xs n = slice_index_or (s.bottom ∷ xs) n s.bottom
 
-  abbrev pub values_in : List V → Leaves → LeafValues V
+  abbrev pub values_in : List V → PerLeaf Leaf → PerLeaf V
   values_in xs l = told_by (record { value = working_value xs; event = λ e. false }) l
 
   -- each formula finds the values of the properties that it names

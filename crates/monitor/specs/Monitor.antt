@@ -8,13 +8,12 @@ use Rattle.ftpl.specs.declared.formulas.Slot.{Slot}
 use Rattle.ftpl.specs.declared.formulas.Slot.TheVariants.{First, Second, Third, Fourth}
 use Rattle.ftpl.specs.declared.formulas.Leaf.{Leaf}
 use Rattle.ftpl.specs.declared.formulas.Leaf.TheVariants.{Always, Eventually, Never}
-use Rattle.ftpl.specs.declared.formulas.Leaves.{Leaves}
+use Rattle.ftpl.specs.declared.formulas.PerLeaf.{PerLeaf}
 use Rattle.ftpl.specs.declared.formulas.Trace.{Trace}
 use Rattle.ftpl.specs.declared.formulas.Trace.TheVariants.{At, Both', Either'}
 use Rattle.ftpl.specs.declared.formulas.Core.{Core}
 use Rattle.ftpl.specs.declared.formulas.Core.TheVariants.{Plain, Before, Until}
 use Rattle.ftpl.specs.declared.formulas.Formula.{Formula}
-use Rattle.monitor.specs.declared.leaf_values.LeafValues.{LeafValues}
 
 -- a set of leaves
 abbrev pub Set : Type 0
@@ -54,7 +53,7 @@ number_of (Eventually a) = a
 number_of (Never a) = a
 
 -- what the four leaves' properties are worth at a position
-abbrev pub told_by : {V : Type 0} → View V → Leaves → LeafValues V
+abbrev pub told_by : {V : Type 0} → View V → PerLeaf Leaf → PerLeaf V
 told_by x l = record { first = x.value (number_of l.first); second = x.value (number_of l.second); third = x.value (number_of l.third); fourth = x.value (number_of l.fourth) }
 
 -- what is held: for each set of leaves a value, and one more
@@ -95,7 +94,7 @@ module _ {V : Type 0} (s : Ops V) where
   extend j l v b (clause c) = lengthen j l v (λ d. b (clause d)) c
   extend j l v b kept = b kept
 
-  abbrev pub extend_all : Leaves → LeafValues V → (Cell → V) → Cell → V
+  abbrev pub extend_all : PerLeaf Leaf → PerLeaf V → (Cell → V) → Cell → V
   extend_all l y b = extend Fourth l.fourth y.fourth (extend Third l.third y.third (extend Second l.second y.second (extend First l.first y.first b)))
 
   -- what the core's event does to the starts so far
@@ -114,28 +113,28 @@ module _ {V : Type 0} (s : Ops V) where
   happen k event b kept = happen_kept k event (λ d. b (clause d)) (b kept)
 
   -- a start that has seen nothing
-  abbrev pub unseen : Leaves → Set → V
+  abbrev pub unseen : PerLeaf Leaf → Set → V
   unseen l c = joined c (λ j. leaf s (leaf_at l j) [])
 
-  abbrev pub blank : Leaves → Cell → V
+  abbrev pub blank : PerLeaf Leaf → Cell → V
   blank l (clause c) = unseen l c
   blank l kept = s.top
 
   -- a new start behind a lock
-  abbrev pub launch_row : Leaves → V → (Set → V) → Set → V
+  abbrev pub launch_row : PerLeaf Leaf → V → (Set → V) → Set → V
   launch_row l h w c = s.both (w c) (s.either h (unseen l c))
 
-  abbrev pub launch : Leaves → V → (Cell → V) → Cell → V
+  abbrev pub launch : PerLeaf Leaf → V → (Cell → V) → Cell → V
   launch l h b (clause c) = launch_row l h (λ d. b (clause d)) c
   launch l h b kept = b kept
 
-  abbrev pub go_row : Leaves → Core → V → LeafValues V → (EventList → Bool) → (Set → V) → Set → V
+  abbrev pub go_row : PerLeaf Leaf → Core → V → PerLeaf V → (EventList → Bool) → (Set → V) → Set → V
   go_row l k h y event w = lengthen Fourth l.fourth y.fourth (lengthen Third l.third y.third (lengthen Second l.second y.second (lengthen First l.first y.first (launch_row l h (happen_row k event w)))))
 
-  abbrev pub go_with : Leaves → Core → V → LeafValues V → (EventList → Bool) → (Cell → V) → Cell → V
+  abbrev pub go_with : PerLeaf Leaf → Core → V → PerLeaf V → (EventList → Bool) → (Cell → V) → Cell → V
   go_with l c h y event b = extend_all l y (launch l h (happen c event b))
 
-  abbrev pub go : Leaves → Core → V → View V → (Cell → V) → Cell → V
+  abbrev pub go : PerLeaf Leaf → Core → V → View V → (Cell → V) → Cell → V
   go l c h x b = go_with l c h (told_by x l) x.event b
 
   abbrev pub held : Option EventList → V → V → V
@@ -149,7 +148,7 @@ module _ {V : Type 0} (s : Ops V) where
   abbrev pub begin : State V
   begin = record { cells = λ k. s.top; fresh = s.bottom; one = s.top; two = s.top; three = s.top }
 
-  abbrev pub step_with : Formula → LeafValues V → (EventList → Bool) → State V → State V
+  abbrev pub step_with : Formula → PerLeaf V → (EventList → Bool) → State V → State V
   step_with f y event b =
       let h₁ = passed f.first event b.one b.fresh in
       let h₂ = passed f.second event b.two h₁ in

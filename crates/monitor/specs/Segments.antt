@@ -6,7 +6,7 @@ use Rattle.ftpl.specs.Formulas.{View, leaf_at}
 use Rattle.ftpl.specs.declared.formulas.EventList.{EventList}
 use Rattle.ftpl.specs.declared.formulas.Leaf.{Leaf}
 use Rattle.ftpl.specs.declared.formulas.Leaf.TheVariants.{Always, Eventually, Never}
-use Rattle.ftpl.specs.declared.formulas.Leaves.{Leaves}
+use Rattle.ftpl.specs.declared.formulas.PerLeaf.{PerLeaf}
 use Rattle.ftpl.specs.declared.formulas.Trace.{Trace}
 use Rattle.ftpl.specs.declared.formulas.Trace.TheVariants.{At, Both', Either'}
 use Rattle.ftpl.specs.declared.formulas.Core.{Core}
@@ -29,13 +29,13 @@ module _ {V : Type 0} (s : Ops V) where
   leaf (Eventually a) xs = some s (map (λ x. x.value a) xs)
   leaf (Never a) xs = all s (map (λ x. s.turn (x.value a)) xs)
 
-  abbrev pub trace : Leaves → Trace → List (View V) → V
+  abbrev pub trace : PerLeaf Leaf → Trace → List (View V) → V
   trace l (At j) xs = leaf (leaf_at l j) xs
   trace l (Both' p a q b) xs = s.both (trace l a xs) (trace l b xs)
   trace l (Either' p a q b) xs = s.either (trace l a xs) (trace l b xs)
 
   -- a core, read from the first position of x ∷ xs to its last
-  abbrev pub core : Leaves → Core → List (View V) → V
+  abbrev pub core : PerLeaf Leaf → Core → List (View V) → V
   core l c [] = s.top
   core l (Plain t) (x ∷ xs) = trace l t (x ∷ xs)
   core l (Before e t) (x ∷ xs) = all s (map (trace l t) (ends e (x ∷ []) xs))

@@ -4,7 +4,6 @@
 mod calls;
 mod clauses;
 mod following;
-mod leaf_values;
 mod steps;
 mod working;
 

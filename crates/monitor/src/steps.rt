@@ -7,9 +7,8 @@ ghost use Rattle.monitor.specs.Monitor.{happen_row, happen_kept, go_row, read_ro
 ghost use Rattle.monitor.specs.Layout.{clauses, cells_of, viewed, Locked};
 
 use crate::clauses::{absorb, bare, launch, lengthen, load, store};
-use crate::leaf_values::LeafValues;
 use ftpl::events::holds;
-use ftpl::formulas::{Core, Event, EventList, Formula, Slot};
+use ftpl::formulas::{Core, Event, EventList, Formula, PerLeaf, Slot};
 use scale::Scale;
 
 // Where a formula's cells stand behind the sixteen clauses; those from 21 on are not used.
@@ -76,7 +75,7 @@ fn happen_kept<S: Scale>(core: &Core, event: Option<Event>, w: [S; 16], kept: S)
 fn go_row<S: Scale>(
     f: &Formula,
     h: S,
-    values: LeafValues<S>,
+    values: PerLeaf<S>,
     event: Option<Event>,
     w: [S; 16],
 ) -> [S; 16]
@@ -108,13 +107,7 @@ pub(crate) fn show<S: Scale>(f: &Formula, cells: &[S]) -> S
     read(&f.core, load(cells), cells[KEPT])
 }
 
-fn go_cells<S: Scale>(
-    f: &Formula,
-    h: S,
-    values: LeafValues<S>,
-    event: Option<Event>,
-    cells: &mut [S],
-)
+fn go_cells<S: Scale>(f: &Formula, h: S, values: PerLeaf<S>, event: Option<Event>, cells: &mut [S])
     requires { 21 ≤ length cells.old }
     ensures made { cells_of S.Scale.ops cells.new ≡ go_with S.Scale.ops f.now.leaves f.now.core h values (λ e. holds_at e event) (cells_of S.Scale.ops cells.old) }
     ensures rest { (k : ℕ) → 17 ≤ k → slice_index_or cells.new k S.Scale.ops.top ≡ slice_index_or cells.old k S.Scale.ops.top }
@@ -137,7 +130,7 @@ fn put_locks<S: Scale>(one: S, two: S, three: S, cells: &mut [S])
 /// Goes on by one position, at which the leaves have these values and this happened.
 pub(crate) fn advance<S: Scale>(
     f: &Formula,
-    values: LeafValues<S>,
+    values: PerLeaf<S>,
     event: Option<Event>,
     cells: &mut [S],
 )

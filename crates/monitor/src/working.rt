@@ -7,8 +7,7 @@ ghost use Rattle.ftpl.specs.Properties.{numbered_value};
 ghost use Rattle.monitor.specs.Monitor.{number_of};
 ghost use Rattle.monitor.specs.Boards.{Stands, working_value, values_in, Ready};
 
-use crate::leaf_values::LeafValues;
-use ftpl::formulas::{Formula, Leaf, Leaves};
+use ftpl::formulas::{Formula, Leaf, Leaves, PerLeaf};
 use ftpl::properties::Property;
 use ftpl::values::numbered_value;
 use host::Host;
@@ -97,10 +96,10 @@ fn value_of<S: Scale>(values: &[S], number: u8) -> S
 }
 
 /// The working values of a trace's leaves.
-pub(crate) fn values_of<S: Scale>(values: &[S], leaves: Leaves) -> LeafValues<S>
+pub(crate) fn values_of<S: Scale>(values: &[S], leaves: Leaves) -> PerLeaf<S>
     ensures { result ≡ values_in S.Scale.ops values.now leaves }
 {
-    LeafValues {
+    PerLeaf {
         first: value_of(values, number_of(leaves.first)),
         second: value_of(values, number_of(leaves.second)),
         third: value_of(values, number_of(leaves.third)),

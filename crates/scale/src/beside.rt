@@ -3,7 +3,7 @@ ghost use Rattle.scale.specs.SideBySide.{side_by_side, side_by_side_laws};
 use crate::scales::Scale;
 
 /// A value of one scale beside a value of another.
-#[derive(Clone, Copy)]
+#[derive(Clone, Copy, Debug, PartialEq, Eq)]
 pub struct Beside<A, B> {
     pub first: A,
     pub second: B,

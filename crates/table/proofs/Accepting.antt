@@ -1,5 +1,5 @@
 -- An accepted step: none of the conditions holds, and a lawful table stays lawful.
-use Rattle.std.proofs.Common.{◌≡◌, ℕ, ◌<◌, ◌≤◌, ◌≢◌, List, ◌∷◌, length, set, Some, None, Ok, Err, Option, Result, sym, refl, ap, ◌∙◌, inl, inr, arith, lit≤}
+use Rattle.std.proofs.Common.{◌≡◌, ℕ, ◌<◌, ◌≤◌, ◌≢◌, List, ◌∷◌, length, Some, None, Ok, Err, Option, Result, sym, refl, ap, ◌∙◌, inl, inr, arith, lit≤}
 use native.Mathlib.Decide.{ℕ_discrete}
 use Rattle.host.specs.declared.rows.Row.{Row}
 use Rattle.host.specs.declared.refusals.Refusal.{Refusal}
@@ -172,10 +172,12 @@ length_stepped t s = go (refusal t s)
     go None = length-set t (target s) (row_after s (row_at t (target s)))
     go (Some x) = refl
 
--- what writing the row that the step makes leaves
-pub written_effect : (t u : List Row) (s : Step) (p : ℕ) (q r : Row) → p ≡ target s → q ≡ row_at t p → r ≡ row_after s q → u ≡ set t p r → u ≡ effect t s
-written_effect t u s p q r e f g h = h ∙ ap (set t p) (g ∙ ap (row_after s) f) ∙ ap (λ x. set t x (row_after s (row_at t x))) e
+none_refused : (o : Option Refusal) → Ok tt ≡ as_answer o → o ≡ None
+none_refused None e = refl
+none_refused (Some x) e = cc
 
--- a step that is not refused answers and leaves what its definition says
-pub done : (t u : List Row) (s : Step) (r : Result Unit Refusal) → None ≡ refusal t s → Writes t (target s) r → u ≡ effect t s → (r ≡ answer t s) × (u ≡ stepped t s)
-done t u s r e w h = (written t s (sym e) r w ∙ ap as_answer e, h ∙ ap (λ o. unless_refused o t (effect t s)) e)
+-- a step that is permitted answers and leaves what its definition says
+pub done : (t u : List Row) (s : Step) (r : Result Unit Refusal) → Ok tt ≡ answer t s → Writes t (target s) r → u ≡ effect t s → (r ≡ answer t s) × (u ≡ stepped t s)
+done t u s r e w h =
+    let n : refusal t s ≡ None = none_refused (refusal t s) e in
+    (written t s n r w ∙ e, h ∙ ap (λ o. unless_refused o t (effect t s)) (sym n))

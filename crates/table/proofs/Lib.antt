@@ -4,3 +4,5 @@ pub mod Keeping
 pub mod Settling
 pub mod Accepting
 pub mod Edges
+pub mod Finding
+pub mod Order

@@ -1,19 +1,15 @@
 -- Tests joined in the order in which the code makes them.
-use Rattle.std.proofs.Common.{◌≡◌, Bool, true, false, ◌⊎◌, List, [], ◌∷◌, Some, None, Decides, Option, sym, refl, ◌∙◌, inl, inr}
+use Rattle.std.proofs.Common.{◌≡◌, Bool, true, false, List, [], ◌∷◌, Some, None, Err, Decides, Option, Result, sym, ap, refl, ◌∙◌}
 use Rattle.std.proofs.lemmas.Bool.{false≢true}
 use Rattle.std.proofs.lemmas.Bool.Decides.{not_from_Decides}
 use Rattle.host.specs.declared.refusals.Refusal.{Refusal}
 use Rattle.table.specs.Conditions.{Condition}
 use Rattle.table.specs.Refusals.{refuse_if, first}
+use Rattle.table.specs.Steps.{as_answer}
 
-module _ {P Q : Type 0} (r : Bool) where
-  -- the first of two holds, so the second tells
-  pub both_by_second : P → Decides r Q → Decides r (P × Q)
-  both_by_second p d = (λ e. (p, d.0 e), λ h. d.1 h.1)
-
-  -- the first of two does not hold, so the second tells
-  pub either_by_second : (P → ⊥) → Decides r Q → Decides r (P ⊎ Q)
-  either_by_second n d = (λ e. inr (d.0 e), λ h. elim h [ inl p ↦ absurd (n p) | inr q ↦ d.1 q ])
+-- the first of two holds, so the second tells
+pub both_by_second : {P Q : Type 0} (r : Bool) → P → Decides r Q → Decides r (P × Q)
+both_by_second r p d = (λ e. (p, d.0 e), λ h. d.1 h.1)
 
 -- what does not hold is told by false
 pub told_false : (P : Type 0) → (P → ⊥) → Decides false P
@@ -36,13 +32,13 @@ module _ (c : Condition) (e : Refusal) (rest : List (Condition × Refusal)) wher
   unfolding first
   passes n = told_no c.told e (first rest) n
 
-  -- and as a test told
-  module _ (b : Bool) (tells : Decides b c.holds) where
-    pub here : b ≡ true → Some e ≡ first ((c, e) ∷ rest)
-    here h = sym (refuses (tells.0 h))
+-- the same of an answer, as a test told
+module _ (c : Condition) (e : Refusal) (rest : List (Condition × Refusal)) {b : Bool} (tells : Decides b c.holds) where
+  pub here : b ≡ true → Err e ≡ as_answer (first ((c, e) ∷ rest))
+  here h = sym (ap as_answer (refuses c e rest (tells.0 h)))
 
-    pub past : b ≡ false → (r : Option Refusal) → r ≡ first rest → r ≡ first ((c, e) ∷ rest)
-    past h r k = k ∙ sym (passes (not_from_Decides b tells h))
+  pub past : b ≡ false → {r : Result Unit Refusal} → r ≡ as_answer (first rest) → r ≡ as_answer (first ((c, e) ∷ rest))
+  past h k = k ∙ sym (ap as_answer (passes c e rest (not_from_Decides b tells h)))
 
 pub no_more : None ≡ first []
 unfolding first

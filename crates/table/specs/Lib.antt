@@ -1,3 +1,4 @@
+pub mod Breaches
 pub mod Climbing
 pub mod Conditions
 pub mod Deciding

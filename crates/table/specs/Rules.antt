@@ -1,5 +1,5 @@
 -- The ten rules of a lawful table.
-use Rattle.std.specs.Prelude.{◌≡◌, ℕ, suc, ◌<◌, ◌≤◌, ◌≢◌, ◌⊎◌, List, ℤ, pos, negsuc, ◌≤ℤ◌, Some, None, Ok, Err, Option, Result}
+use Rattle.std.specs.Prelude.{◌≡◌, ℕ, ◌<◌, ◌≤◌, ◌≢◌, ◌⊎◌, List, ℤ, pos, negsuc, ◌≤ℤ◌, Some, None, Ok, Err, Option, Result}
 use Rattle.host.specs.declared.rows.Row.{Row}
 use Rattle.host.specs.declared.refusals.Rule.{Rule}
 use Rattle.host.specs.declared.refusals.Rule.TheVariants.{KnownKind, OwnFields, NameForm, OwnerIsComponent, ParameterOwner, Range, LinkEnd, LinkOwners, OwnersEnd, OwnName}
@@ -94,11 +94,6 @@ pub record Lawful (t : List Row) : Type 0 where
 pub record LowestBroken (t : List Row) (p : ℕ) (k : Rule) : Type 0 where
   pub broken : Keeps k t p → ⊥
   pub lowest : (j : Rule) → rule_number j < rule_number k → Keeps j t p
-
--- the rule after a rule, by their numbers; none after the tenth
-abbrev pub Following : Rule → Option Rule → Type 0
-Following k None = rule_number k ≡ 10
-Following k (Some j) = rule_number j ≡ suc (rule_number k)
 
 -- what is found wrong at a place: nothing, or the lowest rule that is broken there
 abbrev pub WrongAt : List Row → ℕ → Option Rule → Type 0

@@ -11,6 +11,7 @@ mod trying;
 
 pub use breaches::Breach;
 pub use edge_facts::edges_hold;
+pub use places::filled_rows;
 pub use rules::check;
 pub use steps::Step;
 pub use trying::try_step;

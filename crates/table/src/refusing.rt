@@ -4,7 +4,8 @@ ghost use Rattle.host.specs.Names.{IsName};
 ghost use Rattle.table.specs.Rules.{InRange};
 ghost use Rattle.table.specs.Places.{component, none, kind_at, owner_at, link_at};
 ghost use Rattle.table.specs.Conditions.{started};
-ghost use Rattle.table.specs.Refusals.{beyond, wrong_rows, out_of_range, tied, running, in_use, loop, taken, refusal};
+ghost use Rattle.table.specs.Refusals.{beyond, wrong_rows, out_of_range, tied, running, in_use, loop, taken};
+ghost use Rattle.table.specs.Steps.{answer};
 
 use crate::places::{
     borne, interface_linked, joinable, link_of_another, owns, owns_another, reaches,
@@ -19,18 +20,12 @@ fn is_beyond<H: Host>(host: &H, step: Step) -> bool
 {
     let end = host.capacity();
     match step {
-        Step::New { at, .. } => end <= at,
-        Step::Provide { at, owner, .. } => end <= at || end <= owner,
-        Step::Require { at, owner, .. } => end <= at || end <= owner,
-        Step::Parameter { at, owner, .. } => end <= at || end <= owner,
-        Step::Delete { at } => end <= at,
-        Step::Add { at, owner } => end <= at || end <= owner,
-        Step::Remove { at } => end <= at,
+        Step::Provide { at, owner, .. }
+        | Step::Require { at, owner, .. }
+        | Step::Parameter { at, owner, .. }
+        | Step::Add { at, owner } => end <= at || end <= owner,
         Step::Bind { at, to } => end <= at || end <= to,
-        Step::Unbind { at } => end <= at,
-        Step::Start { at } => end <= at,
-        Step::Stop { at } => end <= at,
-        Step::Set { at, .. } => end <= at,
+        _ => end <= step.target(),
     }
 }
 
@@ -47,21 +42,20 @@ fn has_wrong_rows<H: Host>(host: &H, step: Step) -> bool
 {
     match step {
         Step::New { at, .. } => kind_at(host, at) != 0,
-        Step::Provide { at, owner, .. } => kind_at(host, at) != 0
-            || kind_at(host, owner) != COMPONENT,
-        Step::Require { at, owner, .. } => kind_at(host, at) != 0
-            || kind_at(host, owner) != COMPONENT,
-        Step::Parameter { at, owner, .. } => {
+        Step::Provide { at, owner, .. }
+        | Step::Require { at, owner, .. }
+        | Step::Parameter { at, owner, .. } => {
             kind_at(host, at) != 0 || kind_at(host, owner) != COMPONENT
         }
         Step::Delete { at } => kind_at(host, at) == 0,
-        Step::Add { at, owner } => kind_at(host, at) != COMPONENT
-            || kind_at(host, owner) != COMPONENT,
-        Step::Remove { at } => kind_at(host, at) != COMPONENT,
+        Step::Add { at, owner } => {
+            kind_at(host, at) != COMPONENT || kind_at(host, owner) != COMPONENT
+        }
+        Step::Remove { at } | Step::Start { at } | Step::Stop { at } => {
+            kind_at(host, at) != COMPONENT
+        }
         Step::Bind { at, to } => kind_at(host, at) != PROVIDED || kind_at(host, to) != REQUIRED,
         Step::Unbind { at } => kind_at(host, at) != PROVIDED,
-        Step::Start { at } => kind_at(host, at) != COMPONENT,
-        Step::Stop { at } => kind_at(host, at) != COMPONENT,
         Step::Set { at, .. } => kind_at(host, at) != PARAMETER,
     }
 }
@@ -78,9 +72,8 @@ fn is_out_of_range<H: Host>(host: &H, step: Step) -> bool
     ensures { Decides result (out_of_range (H.Host.rows host.now) step).holds }
 {
     match step {
-        Step::New { name, .. } => !is_name(name),
-        Step::Provide { name, .. } => !is_name(name),
-        Step::Require { name, .. } => !is_name(name),
+        Step::New { name, .. } | Step::Provide { name, .. } | Step::Require { name, .. } =>
+            !is_name(name),
         Step::Parameter {
             name,
             lo,
@@ -134,14 +127,14 @@ fn is_running<H: Host>(host: &H, step: Step) -> bool
     ensures { Decides result (running (H.Host.rows host.now) step).holds }
 {
     match step {
-        Step::Provide { owner, .. } => is_started(host, owner),
-        Step::Require { owner, .. } => is_started(host, owner),
-        Step::Parameter { owner, .. } => is_started(host, owner),
-        Step::Delete { at } => is_started(host, at)
-            || (kind_at(host, at) != COMPONENT && is_owner_started(host, at)),
-        Step::Add { owner, .. } => is_started(host, owner),
-        Step::Remove { at } => is_owner_started(host, at),
-        Step::Bind { to, .. } => is_owner_started(host, to),
+        Step::Provide { owner, .. }
+        | Step::Require { owner, .. }
+        | Step::Parameter { owner, .. }
+        | Step::Add { owner, .. } => is_started(host, owner),
+        Step::Delete { at } => {
+            is_started(host, at) || (kind_at(host, at) != COMPONENT && is_owner_started(host, at))
+        }
+        Step::Remove { at: place } | Step::Bind { to: place, .. } => is_owner_started(host, place),
         Step::Unbind { at } => is_owner_started(host, row_at(host, at).link),
         _ => false,
     }
@@ -159,10 +152,7 @@ fn is_attached<H: Host>(host: &H, place: u8) -> bool
 fn is_joined<H: Host>(host: &H, place: u8) -> bool
     ensures { Decides result (in_use (H.Host.rows host.now) (Step.Delete place)).holds }
 {
-    if owns_another(host, place) || link_of_another(host, place) {
-        return true;
-    }
-    is_attached(host, place)
+    owns_another(host, place) || link_of_another(host, place) || is_attached(host, place)
 }
 
 /// Whether other rows lean on the row that shall go.
@@ -193,9 +183,9 @@ fn is_taken<H: Host>(host: &H, step: Step) -> bool
     let end = host.capacity();
     match step {
         Step::New { at, name } => borne(host, end, at, NONE, name),
-        Step::Provide { at, owner, name } => borne(host, end, at, owner, name),
-        Step::Require { at, owner, name } => borne(host, end, at, owner, name),
-        Step::Parameter {
+        Step::Provide { at, owner, name }
+        | Step::Require { at, owner, name }
+        | Step::Parameter {
             at,
             owner,
             name,
@@ -207,27 +197,27 @@ fn is_taken<H: Host>(host: &H, step: Step) -> bool
     }
 }
 
-/// Why a step is refused, if it is: the first condition that holds.
-pub(crate) fn refusal_of<H: Host>(host: &H, step: Step) -> Option<Refusal>
-    ensures { result ≡ refusal (H.Host.rows host.now) step }
+/// Whether a step is permitted; if not, why: the first condition that holds.
+pub(crate) fn permit<H: Host>(host: &H, step: Step) -> Result<(), Refusal>
+    ensures { result ≡ answer (H.Host.rows host.now) step }
 {
     if is_beyond(host, step) {
-        Some(Refusal::BeyondCapacity)
+        Err(Refusal::BeyondCapacity)
     } else if has_wrong_rows(host, step) {
-        Some(Refusal::WrongRow)
+        Err(Refusal::WrongRow)
     } else if is_out_of_range(host, step) {
-        Some(Refusal::OutOfRange)
+        Err(Refusal::OutOfRange)
     } else if is_tied(host, step) {
-        Some(Refusal::Tied)
+        Err(Refusal::Tied)
     } else if is_running(host, step) {
-        Some(Refusal::Running)
+        Err(Refusal::Running)
     } else if is_in_use(host, step) {
-        Some(Refusal::InUse)
+        Err(Refusal::InUse)
     } else if makes_loop(host, step) {
-        Some(Refusal::OwnerLoop)
+        Err(Refusal::OwnerLoop)
     } else if is_taken(host, step) {
-        Some(Refusal::NameTaken)
+        Err(Refusal::NameTaken)
     } else {
-        None
+        Ok(())
     }
 }

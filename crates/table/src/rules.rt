@@ -1,26 +1,32 @@
 ghost use Rattle.std.specs.Prelude.{◌≡◌, Decides};
-ghost use Rattle.table.specs.Rules.{KindKnown, FieldsFit, R3, R4, R5, R6, R7, R8, R10, InRange, Keeps, Following, WrongAt, Checked};
+ghost use Rattle.table.specs.Rules.{KindKnown, FieldsFit, R3, R4, R5, R6, R7, R8, R10, InRange, Keeps, WrongAt, Checked};
 ghost use Rattle.table.specs.Verdicts.{verdict};
 
 use crate::breaches::Breach;
 use crate::places::{borne, joinable, owns, reaches};
-use host::{COMPONENT, Host, NONE, PARAMETER, PROVIDED, REQUIRED, Row, Rule, is_name, row_at};
+use host::{
+    COMPONENT, EMPTY, Host, NONE, PARAMETER, PROVIDED, REQUIRED, Row, Rule, is_name, row_at,
+};
+
+/// The ten rules in the order of their numbers.
+const RULES: [Rule; 10] = [
+    Rule::KnownKind,
+    Rule::OwnFields,
+    Rule::NameForm,
+    Rule::OwnerIsComponent,
+    Rule::ParameterOwner,
+    Rule::Range,
+    Rule::LinkEnd,
+    Rule::LinkOwners,
+    Rule::OwnersEnd,
+    Rule::OwnName,
+];
 
 /// R1: the kind is 0 to 4, and a row of kind 0 is the empty row.
 fn kind_known(row: Row) -> bool
     ensures { Decides result (KindKnown row) }
 {
-    if row.kind == 0 {
-        row.name == 0
-            && row.owner == NONE
-            && row.link == NONE
-            && row.up == 0
-            && row.lo == 0
-            && row.hi == 0
-            && row.value == 0
-    } else {
-        row.kind <= 4
-    }
+    row == EMPTY || matches!(row.kind, COMPONENT..=PARAMETER)
 }
 
 /// R2: link, range, value and up only where the kind has them.
@@ -115,36 +121,14 @@ fn keeps<H: Host>(host: &H, place: u8, rule: Rule) -> bool
     }
 }
 
-/// The rule after a rule, by their numbers.
-fn following(rule: Rule) -> Option<Rule>
-    ensures { Following rule result }
-{
-    match rule {
-        Rule::KnownKind => Some(Rule::OwnFields),
-        Rule::OwnFields => Some(Rule::NameForm),
-        Rule::NameForm => Some(Rule::OwnerIsComponent),
-        Rule::OwnerIsComponent => Some(Rule::ParameterOwner),
-        Rule::ParameterOwner => Some(Rule::Range),
-        Rule::Range => Some(Rule::LinkEnd),
-        Rule::LinkEnd => Some(Rule::LinkOwners),
-        Rule::LinkOwners => Some(Rule::OwnersEnd),
-        Rule::OwnersEnd => Some(Rule::OwnName),
-        Rule::OwnName => None,
-    }
-}
-
 /// The lowest rule that is broken at a place.
 fn wrong_at<H: Host>(host: &H, place: u8) -> Option<Rule>
     ensures { WrongAt (H.Host.rows host.now) place result }
 {
-    let mut rule = Rule::KnownKind;
-    while keeps(host, place, rule) {
-        match following(rule) {
-            Some(next) => rule = next,
-            None => return None,
-        }
-    }
-    Some(rule)
+    RULES
+        .iter()
+        .copied()
+        .find(|&rule| !keeps(host, place, rule))
 }
 
 /// Whether a table is lawful; if not, the lowest place that breaks a rule and the lowest rule broken there.

@@ -63,3 +63,28 @@ pub enum Step {
         value: i32,
     },
 }
+
+impl Step {
+    ghost use Rattle.std.specs.Prelude.{◌≡◌};
+    ghost use Rattle.table.specs.Steps.{target};
+
+    /// The place whose row the step changes.
+    pub(crate) fn target(self) -> u8
+        ensures { result ≡ target self }
+    {
+        match self {
+            Step::New { at, .. }
+            | Step::Provide { at, .. }
+            | Step::Require { at, .. }
+            | Step::Parameter { at, .. }
+            | Step::Delete { at }
+            | Step::Add { at, .. }
+            | Step::Remove { at }
+            | Step::Bind { at, .. }
+            | Step::Unbind { at }
+            | Step::Start { at }
+            | Step::Stop { at }
+            | Step::Set { at, .. } => at,
+        }
+    }
+}

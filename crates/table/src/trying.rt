@@ -1,30 +1,10 @@
 ghost use Rattle.std.specs.Prelude.{◌≡◌};
 ghost use Rattle.table.specs.Rules.{Lawful};
-ghost use Rattle.table.specs.Steps.{fresh, target, row_after, answer, stepped};
+ghost use Rattle.table.specs.Steps.{fresh, row_after, answer, stepped};
 
-use crate::refusing::refusal_of;
+use crate::refusing::permit;
 use crate::steps::Step;
 use host::{COMPONENT, EMPTY, Host, NONE, PARAMETER, PROVIDED, REQUIRED, Refusal, Row, row_at};
-
-/// The place whose row a step changes.
-fn target_of(step: Step) -> u8
-    ensures { result ≡ target step }
-{
-    match step {
-        Step::New { at, .. } => at,
-        Step::Provide { at, .. } => at,
-        Step::Require { at, .. } => at,
-        Step::Parameter { at, .. } => at,
-        Step::Delete { at } => at,
-        Step::Add { at, .. } => at,
-        Step::Remove { at } => at,
-        Step::Bind { at, .. } => at,
-        Step::Unbind { at } => at,
-        Step::Start { at } => at,
-        Step::Stop { at } => at,
-        Step::Set { at, .. } => at,
-    }
-}
 
 /// A new row of a kind, with neither link nor numbers.
 fn fresh_row(kind: u8, owner: u8, name: u64) -> Row
@@ -80,12 +60,8 @@ pub fn try_step<H: Host>(host: &mut H, step: Step) -> Result<(), Refusal>
     ensures held { H.Host.held host.old host.new }
     ensures lawful { Lawful (H.Host.rows host.old) → Lawful (H.Host.rows host.new) }
 {
-    match refusal_of(host, step) {
-        Some(refusal) => Err(refusal),
-        None => {
-            let place = target_of(step);
-            let row = row_after(step, row_at(host, place));
-            host.write(place, row)
-        }
-    }
+    permit(host, step)?;
+    let place = step.target();
+    let row = row_after(step, row_at(host, place));
+    host.write(place, row)
 }

@@ -23,14 +23,12 @@ const BUF: u64 = 0x6275_6600_0000_0000;
 const BLANK: u64 = 0x2000_0000_0000_0000;
 
 /// A step, and the number of its refusal, or 0 where it is accepted.
+// Stays: a number for a refusal, since it is the number that these tests hold fast.
 #[derive(Clone, Copy)]
 struct Run(Step, u8);
 
 fn number(answer: Result<(), Refusal>) -> u8 {
-    match answer {
-        Ok(()) => 0,
-        Err(refusal) => refusal.number(),
-    }
+    answer.err().map_or(0, Refusal::number)
 }
 
 /// One after another on one table: a component T (0) with the components A (1) and B (2), a provided interface P of A (3),
@@ -472,8 +470,8 @@ static RUNS: [Run; 138] = [
 #[test]
 fn steps_run(rt: HostRuntime) {
     let mut host = Plain::new();
-    for run in &RUNS {
-        assert_eq!(rt; number(try_step(&mut host, run.0)), run.1);
+    for &Run(step, refusal) in &RUNS {
+        assert_eq!(rt; number(try_step(&mut host, step)), refusal);
         assert!(rt; table::check(&host).is_ok());
     }
 }
@@ -528,6 +526,7 @@ fn with(place: u8, row: Row) -> Plain {
 }
 
 /// The place and the number of the rule that `check` finds broken, or 255 and 0.
+// Stays: numbers, since it is the place's and the rule's number that these tests hold fast.
 fn found(host: &Plain) -> (u8, u8) {
     match table::check(host) {
         Ok(()) => (NONE, 0),

@@ -9,10 +9,11 @@ impl Distance {
     pub fn new(number: i32) -> Distance
         ensures { result ≡ distance_of number }
     {
-        if number < -8_000_001 || number > 8_000_001 || number % 2 == 0 {
-            return Distance { value: -8_000_001 };
+        if (-8_000_001..=8_000_001).contains(&number) && number % 2 != 0 {
+            Distance { value: number }
+        } else {
+            Distance::bottom()
         }
-        Distance { value: number }
     }
 
     pub fn value(self) -> i32

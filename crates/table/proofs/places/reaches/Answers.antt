@@ -9,7 +9,7 @@ loop-climbs-preserved g c =
     let t = g.H.Host.rows c.args.host.now in
     let l = c.loop-climbs in
     let r = c.row_at-here in
-    (climb_more t l.climbs c.args.place l.here r.result l.invariant.0 r.ensures, below_more _ _ l.invariant.1 (λ h. c.if-here-goal.false (l.invariant.0 ∙ h)))
+    (climb_more t l._climbs c.args.place l.here r.result l.invariant.0 r.ensures, below_more _ _ l.invariant.1 (λ h. c.if-here-goal.false (l.invariant.0 ∙ h)))
 
 pub returns : goal.returns
 returns g c =

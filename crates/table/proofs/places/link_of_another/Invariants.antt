@@ -1,6 +1,0 @@
-use Rattle.std.proofs.Common.{◌≡◌, ℕ, ◌<◌, ◌≢◌}
-use Rattle.table.specs.Places.{link_at}
-use Rattle.table.proofs.places.link_of_another.Given as goal
-
-abbrev pub invariant-loop-q : goal.invariant-loop-q
-invariant-loop-q g l = (k : ℕ) → k < l.q → (k ≢ l.place) × (link_at (g.H.Host.rows l.host) k ≡ l.place) → ⊥
