@@ -2,10 +2,10 @@
 // how many rows, or the line, the byte and the word that is wrong.
 #![tactic(auto)]
 
-use anyhow::anyhow;
+use anyhow::Context;
 use std::alloc::{AllocError, Global};
 use std::{env, fs};
-use table_text::read_table;
+use table_text::{WrongWord, read_table};
 
 fn decoded(heap: Global, line: &str) -> Result<Vec<u8>, AllocError> {
     let mut text = Vec::new(heap);
@@ -30,10 +30,15 @@ fn judge(rt: &HostRuntime, number: usize, text: &[u8]) -> anyhow::Result<()> {
             let filled = rows.iter().filter(|row| row.is_filled()).count();
             println!(rt; "{number}: {filled} rows")?;
         }
-        Err(wrong) => {
-            let line = wrong.line;
-            let byte = wrong.byte;
-            let word = String::from_utf8_lossy(rt.alloc(), wrong.word)?;
+        Err(
+            WrongWord {
+                word,
+                line,
+                byte,
+                ..
+            },
+        ) => {
+            let word = String::from_utf8_lossy(rt.alloc(), word)?;
             println!(rt; "{number}: line {line}, byte {byte}: \"{word}\"")?;
         }
     }
@@ -41,9 +46,7 @@ fn judge(rt: &HostRuntime, number: usize, text: &[u8]) -> anyhow::Result<()> {
 }
 
 fn run(rt: &HostRuntime) -> anyhow::Result<()> {
-    let Some(path) = env::args(rt)?.nth(1) else {
-        return Err(anyhow!("usage: table_cases FILE"));
-    };
+    let path = env::args(rt)?.nth(1).context("usage: table_cases FILE")?;
     let cases = fs::read_to_string(rt, path.as_str())?;
     for (number, line) in (1usize..).zip(cases.lines()) {
         let text = decoded(rt.alloc(), line)?;
