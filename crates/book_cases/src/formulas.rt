@@ -8,11 +8,7 @@ use std::fmt::Write;
 pub struct FormulaText<'a>(pub &'a Formula);
 
 fn called_word(list: EventList, bit: u64) -> Option<&'static str> {
-    if list.called & bit != 0 {
-        Some("called")
-    } else {
-        None
-    }
+    (list.called & bit != 0).then_some("called")
 }
 
 /// How an operation ended that is on a list; both ends have one word.
@@ -25,42 +21,24 @@ fn ended_word(list: EventList, bit: u64) -> Option<&'static str> {
     }
 }
 
-/// An event of a list, behind a comma unless it is the first.
-fn write_event<W: fmt::Write>(
-    f: &mut fmt::Formatter<W>,
-    first: bool,
-    operation: u32,
-    event: &str,
-) -> fmt::Result {
-    if !first {
-        f.write_str(", ")?;
-    }
-    write!(f, "{operation} {event}")
-}
+/// A list of events, to be written as in a rule.
+#[derive(Clone, Copy)]
+struct Events(EventList);
 
-fn write_events<W: fmt::Write>(f: &mut fmt::Formatter<W>, list: EventList) -> fmt::Result {
-    f.write_str("[")?;
-    let mut first = true;
-    for operation in 0..64u32 {
-        let bit = 1u64 << operation;
-        for word in [called_word(list, bit), ended_word(list, bit)] {
-            if let Some(event) = word {
-                write_event(f, first, operation, event)?;
+impl fmt::Display for Events {
+    fn fmt<W: fmt::Write>(&self, f: &mut fmt::Formatter<W>) -> fmt::Result {
+        f.write_str("[")?;
+        let mut first = true;
+        for operation in 0..64u32 {
+            let bit = 1u64 << operation;
+            let words = [called_word(self.0, bit), ended_word(self.0, bit)];
+            for word in words.into_iter().flatten() {
+                let between = if first { "" } else { ", " };
+                write!(f, "{between}{operation} {word}")?;
                 first = false;
             }
         }
-    }
-    f.write_str("]")
-}
-
-fn write_after<W: fmt::Write>(f: &mut fmt::Formatter<W>, list: Option<EventList>) -> fmt::Result {
-    match list {
-        Some(events) => {
-            f.write_str("after ")?;
-            write_events(f, events)?;
-            f.write_str(" ")
-        }
-        None => Ok(()),
+        f.write_str("]")
     }
 }
 
@@ -79,50 +57,55 @@ fn write_trace<W: fmt::Write>(
 ) -> fmt::Result {
     match trace {
         Trace::At(slot) => write_leaf(f, leaves.at(*slot)),
-        Trace::Both(left, right) => {
+        Trace::Both(left, right) | Trace::Either(left, right) => {
+            let sign = if matches!(trace, Trace::Both(..)) {
+                '&'
+            } else {
+                '|'
+            };
             f.write_str("(")?;
             write_trace(f, leaves, left)?;
-            f.write_str(" & ")?;
-            write_trace(f, leaves, right)?;
-            f.write_str(")")
-        }
-        Trace::Either(left, right) => {
-            f.write_str("(")?;
-            write_trace(f, leaves, left)?;
-            f.write_str(" | ")?;
+            write!(f, " {sign} ")?;
             write_trace(f, leaves, right)?;
             f.write_str(")")
         }
     }
 }
 
-fn write_core<W: fmt::Write>(
-    f: &mut fmt::Formatter<W>,
-    leaves: Leaves,
-    core: &Core,
-) -> fmt::Result {
-    match core {
-        Core::Plain(trace) => write_trace(f, leaves, trace),
-        Core::Before(list, trace) => {
-            f.write_str("before ")?;
-            write_events(f, *list)?;
-            f.write_str(" ")?;
-            write_trace(f, leaves, trace)
-        }
-        Core::Until(trace, list) => {
-            write_trace(f, leaves, trace)?;
-            f.write_str(" until ")?;
-            write_events(f, *list)
-        }
+/// A trace with its leaves, to be written as in a rule.
+#[derive(Clone, Copy)]
+struct Traced<'a>(&'a Trace, Leaves);
+
+impl fmt::Display for Traced<'_> {
+    fn fmt<W: fmt::Write>(&self, f: &mut fmt::Formatter<W>) -> fmt::Result {
+        write_trace(f, self.1, self.0)
     }
 }
 
 impl fmt::Display for FormulaText<'_> {
     fn fmt<W: fmt::Write>(&self, f: &mut fmt::Formatter<W>) -> fmt::Result {
         let formula = self.0;
-        write_after(f, formula.first)?;
-        write_after(f, formula.second)?;
-        write_after(f, formula.third)?;
-        write_core(f, formula.leaves, &formula.core)
+        for list in [formula.first, formula.second, formula.third]
+            .into_iter()
+            .flatten()
+        {
+            write!(f, "after {} ", Events(list))?;
+        }
+        let leaves = formula.leaves;
+        match &formula.core {
+            Core::Plain(trace) => write!(f, "{}", Traced(trace, leaves)),
+            Core::Before(list, trace) => write!(
+                f,
+                "before {} {}",
+                Events(*list),
+                Traced(trace, leaves)
+            ),
+            Core::Until(trace, list) => write!(
+                f,
+                "{} until {}",
+                Traced(trace, leaves),
+                Events(*list)
+            ),
+        }
     }
 }

@@ -8,105 +8,94 @@ use std::fmt::Write;
 #[derive(Clone, Copy)]
 pub struct PropertyText<'a>(pub &'a Property);
 
-fn quantifier_word(quantifier: Quantifier) -> &'static str {
-    match quantifier {
-        Quantifier::ForAll => "all",
-        Quantifier::Exists => "some",
+/// A part of a property, to be written as in its rule.
+#[derive(Clone, Copy)]
+struct Part<T>(T);
+
+impl fmt::Display for Part<Quantifier> {
+    fn fmt<W: fmt::Write>(&self, f: &mut fmt::Formatter<W>) -> fmt::Result {
+        f.write_str(match self.0 {
+            Quantifier::ForAll => "all",
+            Quantifier::Exists => "some",
+        })
     }
 }
 
-fn kind_word(kind: VariableKind) -> &'static str {
-    match kind {
-        VariableKind::Component => "comp",
-        VariableKind::Provided => "prov",
-        VariableKind::Required => "req",
-        VariableKind::Parameter => "par",
+impl fmt::Display for Part<VariableKind> {
+    fn fmt<W: fmt::Write>(&self, f: &mut fmt::Formatter<W>) -> fmt::Result {
+        f.write_str(match self.0 {
+            VariableKind::Component => "comp",
+            VariableKind::Provided => "prov",
+            VariableKind::Required => "req",
+            VariableKind::Parameter => "par",
+        })
     }
 }
 
-fn variable_word(variable: Variable) -> &'static str {
-    match variable {
-        Variable::Outer => "v",
-        Variable::Inner => "w",
+impl fmt::Display for Part<Variable> {
+    fn fmt<W: fmt::Write>(&self, f: &mut fmt::Formatter<W>) -> fmt::Result {
+        f.write_str(match self.0 {
+            Variable::Outer => "v",
+            Variable::Inner => "w",
+        })
     }
 }
 
-fn write_binder<W: fmt::Write>(
-    f: &mut fmt::Formatter<W>,
-    binder: Binder,
-    variable: Variable,
-) -> fmt::Result {
-    let quantifier = quantifier_word(binder.quantifier);
-    let bound = variable_word(variable);
-    let kind = kind_word(binder.kind);
-    write!(f, "{quantifier} {bound}:{kind} ")
-}
+/// A name in 64 bits.
+#[derive(Clone, Copy)]
+struct Name(u64);
 
-/// A test of a variable and a name.
-fn write_named<W: fmt::Write>(
-    f: &mut fmt::Formatter<W>,
-    test: &str,
-    subject: Variable,
-    name: u64,
-) -> fmt::Result {
-    let variable = variable_word(subject);
-    write!(f, "{test} {variable} ")?;
-    let bytes = unpack_name(name);
-    for b in bytes.as_slice() {
-        f.write_char(*b as char)?;
-    }
-    Ok(())
-}
-
-/// A test of two variables.
-fn write_pair<W: fmt::Write>(
-    f: &mut fmt::Formatter<W>,
-    test: &str,
-    first: Variable,
-    second: Variable,
-) -> fmt::Result {
-    let left = variable_word(first);
-    let right = variable_word(second);
-    write!(f, "{test} {left} {right}")
-}
-
-fn write_test<W: fmt::Write>(f: &mut fmt::Formatter<W>, test: Test) -> fmt::Result {
-    match test {
-        Test::Named { subject, name } => write_named(f, "name", subject, name),
-        Test::OwnerNamed { subject, name } => write_named(f, "in", subject, name),
-        Test::Bound { from, to } => write_pair(f, "bound", from, to),
-        Test::Child { child, owner } => write_pair(f, "child", child, owner),
-        Test::Same { left, right } => write_pair(f, "same", left, right),
-        Test::Up { subject } => {
-            let variable = variable_word(subject);
-            write!(f, "up {variable}")
+impl fmt::Display for Name {
+    fn fmt<W: fmt::Write>(&self, f: &mut fmt::Formatter<W>) -> fmt::Result {
+        for b in unpack_name(self.0).as_slice() {
+            f.write_char(*b as char)?;
         }
-        Test::AtMostNumber { left, number } => {
-            let variable = variable_word(left);
-            write!(f, "atmost {variable} {number}")
+        Ok(())
+    }
+}
+
+impl fmt::Display for Part<Test> {
+    fn fmt<W: fmt::Write>(&self, f: &mut fmt::Formatter<W>) -> fmt::Result {
+        match self.0 {
+            Test::Named { subject, name } => write!(f, "name {} {}", Part(subject), Name(name)),
+            Test::OwnerNamed { subject, name } => write!(f, "in {} {}", Part(subject), Name(name)),
+            Test::Bound { from, to } => write!(f, "bound {} {}", Part(from), Part(to)),
+            Test::Child { child, owner } => write!(f, "child {} {}", Part(child), Part(owner)),
+            Test::Same { left, right } => write!(f, "same {} {}", Part(left), Part(right)),
+            Test::Up { subject } => write!(f, "up {}", Part(subject)),
+            Test::AtMostNumber { left, number } => write!(f, "atmost {} {number}", Part(left)),
+            Test::AtMost { left, right } => write!(f, "atmost {} {}", Part(left), Part(right)),
         }
-        Test::AtMost { left, right } => write_pair(f, "atmost", left, right),
+    }
+}
+
+/// A binder of a variable.
+#[derive(Clone, Copy)]
+struct Bound(Binder, Variable);
+
+impl fmt::Display for Bound {
+    fn fmt<W: fmt::Write>(&self, f: &mut fmt::Formatter<W>) -> fmt::Result {
+        let Bound(Binder { quantifier, kind }, variable) = *self;
+        write!(f, "{} {}:{} ", Part(quantifier), Part(variable), Part(kind))
     }
 }
 
 fn write_tests<W: fmt::Write>(f: &mut fmt::Formatter<W>, tests: &Tests) -> fmt::Result {
     match tests {
-        Tests::Single(test) => write_test(f, *test),
+        Tests::Single(test) => write!(f, "{}", Part(*test)),
         Tests::Not(part) => {
             f.write_str("!")?;
             write_tests(f, part)
         }
-        Tests::Both(left, right) => {
+        Tests::Both(left, right) | Tests::Either(left, right) => {
+            let sign = if matches!(tests, Tests::Both(..)) {
+                '&'
+            } else {
+                '|'
+            };
             f.write_str("(")?;
             write_tests(f, left)?;
-            f.write_str(" & ")?;
-            write_tests(f, right)?;
-            f.write_str(")")
-        }
-        Tests::Either(left, right) => {
-            f.write_str("(")?;
-            write_tests(f, left)?;
-            f.write_str(" | ")?;
+            write!(f, " {sign} ")?;
             write_tests(f, right)?;
             f.write_str(")")
         }
@@ -116,10 +105,9 @@ fn write_tests<W: fmt::Write>(f: &mut fmt::Formatter<W>, tests: &Tests) -> fmt::
 impl fmt::Display for PropertyText<'_> {
     fn fmt<W: fmt::Write>(&self, f: &mut fmt::Formatter<W>) -> fmt::Result {
         let property = self.0;
-        write_binder(f, property.outer, Variable::Outer)?;
-        match property.inner {
-            Some(binder) => write_binder(f, binder, Variable::Inner)?,
-            None => {}
+        write!(f, "{}", Bound(property.outer, Variable::Outer))?;
+        if let Some(binder) = property.inner {
+            write!(f, "{}", Bound(binder, Variable::Inner))?;
         }
         f.write_str(": ")?;
         write_tests(f, &property.tests)

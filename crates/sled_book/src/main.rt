@@ -3,13 +3,13 @@
 // and whether the standing conditions hold.
 #![tactic(auto)]
 
-use anyhow::anyhow;
+use anyhow::{anyhow, bail};
 use ftpl::books::Book;
 use ftpl::values::{broken_condition, property_value};
-use host::{Bay, Host, Packed, Refusal, Rule, row_at};
+use host::{Bay, Host, Packed, Refusal};
 use scale::{Beside, Distance};
 use std::{env, fs};
-use table::{Breach, check};
+use table::{check, filled_rows};
 use table_text::{WrongWord, write_table};
 use whole_book::{TextsError, read_texts};
 
@@ -20,15 +20,16 @@ const BAY_FIRST: u8 = 8;
 
 const BAY_ROWS: u8 = 48;
 
-fn print_wrong_word(rt: &HostRuntime, text: &str, wrong: &WrongWord<'_>) -> anyhow::Result<()> {
+fn print_wrong_word(rt: &HostRuntime, text: &str, wrong: WrongWord<'_>) -> anyhow::Result<()> {
     let word = String::from_utf8_lossy(rt.alloc(), wrong.word)?;
-    let line = wrong.line;
-    let byte = wrong.byte;
-    println!(rt; "{text}, line {line}, byte {byte}: wrong word \"{word}\"")?;
+    println!(rt;
+        "{text}, line {}, byte {}: wrong word \"{word}\"",
+        wrong.line, wrong.byte
+    )?;
     Ok(())
 }
 
-fn print_denial(rt: &HostRuntime, error: &TextsError<'_>, capacity: u8) -> anyhow::Result<()> {
+fn print_denial(rt: &HostRuntime, error: TextsError<'_>, capacity: u8) -> anyhow::Result<()> {
     if let Some(refusal) = error.refusal() {
         let number = refusal.number();
         print!(rt; "refused by {number}: ")?;
@@ -42,51 +43,25 @@ fn print_denial(rt: &HostRuntime, error: &TextsError<'_>, capacity: u8) -> anyho
     Ok(())
 }
 
-fn rule_in_words(rule: Rule) -> &'static str {
-    match rule {
-        Rule::KnownKind => "the kind is none of the four, or an empty row is not empty",
-        Rule::OwnFields => "a link, a range, a value or a start where the kind has none",
-        Rule::NameForm => "the name is not 1 to 8 letters or digits",
-        Rule::OwnerIsComponent => "the owner is no component",
-        Rule::ParameterOwner => "the parameter's owner owns a component",
-        Rule::Range => "the range is not -1000000 <= lo <= value <= hi <= 1000000",
-        Rule::LinkEnd => "the link does not lead to a required interface",
-        Rule::LinkOwners =>
-            "the owners of the linked interfaces do not differ, or do not share one component as owner",
-        Rule::OwnersEnd => "going from owner to owner does not end",
-        Rule::OwnName => "a lower row of the same owner has the same name",
-    }
-}
-
+// Stays: twin of that in `sled`, a few lines that print; a library of the two would hold nothing that a contract can say.
 fn print_lawfulness<H: Host>(rt: &HostRuntime, host: &H) -> anyhow::Result<()> {
     match check(host) {
         Ok(()) => println!(rt; "the table is lawful")?,
-        Err(Breach { place, rule }) => {
-            let number = Refusal::Unlawful { place, rule }.number();
-            let rule_number = rule.number();
-            let words = rule_in_words(rule);
-            println!(rt; "refused by {number}: place {place} breaks rule {rule_number}: {words}")?;
+        Err(breach) => {
+            let number = Refusal::from(breach).number();
+            println!(rt; "refused by {number}: {breach}")?;
         }
     }
     Ok(())
 }
 
-fn filled_rows<H: Host>(host: &H) -> usize {
-    let mut filled = 0usize;
-    for place in 0..host.capacity() {
-        if row_at(host, place).is_filled() {
-            filled = filled.saturating_add(1);
-        }
-    }
-    filled
-}
-
+// Stays: twin of that in `sled`, a few lines that print; a library of the two would hold nothing that a contract can say.
 fn print_table<H: Host>(rt: &HostRuntime, host: &H) -> anyhow::Result<()> {
     let mut buf = vec![in rt.alloc(); 0u8; 65536]?;
     match write_table(host, &mut buf) {
         Ok(len) => {
             println!(rt; "written as {len} bytes:")?;
-            let text = String::from_utf8_lossy(rt.alloc(), &buf[0..len])?;
+            let text = String::from_utf8_lossy(rt.alloc(), &buf[..len])?;
             print!(rt; "{text}")?;
         }
         Err(refusal) => {
@@ -113,8 +88,7 @@ fn verdict_word(verdict: bool) -> &'static str {
 }
 
 fn print_values<H: Host>(rt: &HostRuntime, host: &H, book: &Book) -> anyhow::Result<()> {
-    for (before, property) in book.properties.iter().enumerate() {
-        let number = before.saturating_add(1);
+    for (number, property) in (1..=book.properties.len()).zip(&book.properties) {
         let value: Beside<bool, Distance> = property_value(host, property);
         let verdict = verdict_word(value.first);
         let distance = value.second.value();
@@ -148,10 +122,7 @@ fn print_book<H: Host>(rt: &HostRuntime, host: &H, book: &Book) -> anyhow::Resul
 }
 
 fn read_file(rt: &HostRuntime, path: &str) -> anyhow::Result<Vec<u8>> {
-    let text = match fs::read(rt, path) {
-        Ok(text) => text,
-        Err(e) => return Err(anyhow!(format!(in rt.alloc(); "cannot read {path}: {e}")?)),
-    };
+    let text = fs::read(rt, path).map_err(|e| anyhow!("cannot read {path}: {e}"))?;
     let bytes = text.len();
     println!(rt; "{path}: {bytes} bytes")?;
     Ok(text)
@@ -171,16 +142,14 @@ fn run_on(rt: &HostRuntime, table_path: &str, book_path: &str) -> anyhow::Result
             print_rack(rt, &bay)?;
             print_book(rt, &bay, &listed)
         }
-        Err(error) => print_denial(rt, &error, bay.capacity()),
+        Err(error) => print_denial(rt, error, bay.capacity()),
     }
 }
 
 fn run(rt: &HostRuntime) -> anyhow::Result<()> {
     let mut words = env::args(rt)?;
     let (Some(table), Some(book)) = (words.nth(1), words.next()) else {
-        return Err(anyhow!(
-            "usage: sled TABLE BOOK, with the files of a table text and of a book text"
-        ));
+        bail!("usage: sled TABLE BOOK, with the files of a table text and of a book text");
     };
     run_on(rt, table.as_str(), book.as_str())
 }
