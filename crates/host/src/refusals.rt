@@ -104,6 +104,7 @@ pub enum Refusal {
 }
 
 impl Refusal {
+    // Stays: a match, since an enum whose variants have fields has no discriminants.
     pub fn number(self) -> u8
         ensures { result ≡ refusal_number self }
     {

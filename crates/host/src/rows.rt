@@ -2,10 +2,10 @@ ghost use Rattle.std.specs.Prelude.{◌≡◌, not, ◌==◌};
 
 /// One row of a table. A host may hold any numbers here, so the kind stays a byte and the name 64 bits;
 /// the table rules say which rows are lawful.
+// Stays: kind, owner, link and up are numbers, since a host, as the packed image, may hold any number there.
 #[derive(Clone, Copy, Debug, PartialEq, Eq)]
 pub struct Row {
     /// 0 empty, 1 component, 2 provided interface, 3 required interface, 4 parameter
-    // Stays: a number, since a packed image may hold any byte here, and the table rules say which are kinds.
     pub kind: u8,
     /// 1 to 8 ASCII letters or digits, the first byte most significant, zero bytes behind
     pub name: u64,

@@ -2,10 +2,10 @@
 // how many rows, or the line, the byte and the word that is wrong.
 #![tactic(auto)]
 
-use anyhow::anyhow;
+use anyhow::Context;
 use case_text::text_of_line;
 use std::{env, fs};
-use table_text::read_table;
+use table_text::{WrongWord, read_table};
 
 fn judge(rt: &HostRuntime, number: usize, text: &[u8]) -> anyhow::Result<()> {
     match read_table(text) {
@@ -13,10 +13,15 @@ fn judge(rt: &HostRuntime, number: usize, text: &[u8]) -> anyhow::Result<()> {
             let filled = rows.iter().filter(|row| row.is_filled()).count();
             println!(rt; "{number}: {filled} rows")?;
         }
-        Err(wrong) => {
-            let line = wrong.line;
-            let byte = wrong.byte;
-            let word = String::from_utf8_lossy(rt.alloc(), wrong.word)?;
+        Err(
+            WrongWord {
+                word,
+                line,
+                byte,
+                ..
+            },
+        ) => {
+            let word = String::from_utf8_lossy(rt.alloc(), word)?;
             println!(rt; "{number}: line {line}, byte {byte}: \"{word}\"")?;
         }
     }
@@ -24,9 +29,7 @@ fn judge(rt: &HostRuntime, number: usize, text: &[u8]) -> anyhow::Result<()> {
 }
 
 fn run(rt: &HostRuntime) -> anyhow::Result<()> {
-    let Some(path) = env::args(rt)?.nth(1) else {
-        return Err(anyhow!("usage: table_cases FILE"));
-    };
+    let path = env::args(rt)?.nth(1).context("usage: table_cases FILE")?;
     let cases = fs::read_to_string(rt, path.as_str())?;
     for (number, line) in (1usize..).zip(cases.lines()) {
         let text = text_of_line(rt.alloc(), line)?;

@@ -4,7 +4,7 @@ ghost use Rattle.table_text.specs.Lines.{key_text, ending};
 use host::Row;
 
 /// The nine keys of a line.
-#[derive(Clone, Copy)]
+#[derive(Clone, Copy, Debug, PartialEq, Eq)]
 pub enum Key {
     Place,
     Kind,
@@ -59,7 +59,7 @@ impl Key {
 }
 
 /// What one line says: a place and the row there.
-#[derive(Clone, Copy)]
+#[derive(Clone, Copy, Debug, PartialEq, Eq)]
 pub struct Line {
     pub place: u8,
     pub row: Row,

@@ -33,6 +33,7 @@ fn place_or_none(text: &[u8]) -> Option<u8>
     }
 }
 
+// Stays: `line` and `next` would be a struct with a ghost field for `Fits`, but it holds the bytes of a name, so it is no proposition, as such a field must be.
 // The line with what the text behind a key says put into it.
 fn take_value(line: Line, key: Key, text: &[u8], next: u8) -> Option<Line>
     requires { Fits next line }

@@ -4,7 +4,7 @@ ghost use Rattle.table_text.specs.Texts.{parts, Word, Ended, Stands};
 ghost use Rattle.table_text.specs.Marks.{Marks};
 
 /// A wrong word: a part of the text that was read, and where it stands there.
-#[derive(Clone, Copy)]
+#[derive(Clone, Copy, Debug, PartialEq, Eq)]
 pub struct WrongWord<'a> {
     pub word: &'a [u8],
     /// its offset in the text
@@ -16,7 +16,7 @@ pub struct WrongWord<'a> {
 }
 
 // A part of a text, from `at` up to `end`.
-#[derive(Clone, Copy)]
+#[derive(Clone, Copy, Debug, PartialEq, Eq)]
 pub(crate) struct Span {
     pub(crate) at: usize,
     pub(crate) end: usize,

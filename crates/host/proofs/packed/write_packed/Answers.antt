@@ -1,6 +1,5 @@
-use Rattle.std.proofs.Common.{◌<◌, get_or, sym, refl, ap, ◌∙◌, subst, arith, rules}
-use Rattle.std.proofs.lemmas.List.{set_past}
-use Rattle.host.specs.Packing.{rows_in, room, Spared, unspent}
+use Rattle.std.proofs.Common.{◌<◌, get_or, sym, ap, ◌∙◌, subst, arith, rules}
+use Rattle.host.specs.Packing.{rows_in, room, Spared}
 use Rattle.host.proofs.Written.{Fits, length_rows, room_inside, rows_put, others_put, spared_put, put_is}
 use Rattle.host.proofs.packed.write_packed.Goals as goal
 
@@ -21,8 +20,3 @@ returns-then-place-rows_in c =
       others = λ k away. ap (λ vs. get_or vs k 0) e ∙ others_put ws p r h k away;
       spared = subst (Spared ws) (sym e) (spared_put ws p r h);
     }
-
-pub returns-else-place-rows_in : goal.returns-else-place-rows_in
-returns-else-place-rows_in c =
-    let ws = c.args.words.now in
-    record { told = (omega arith, refl); rows = sym (set_past (rows_in ws) c.args.place c.args.row (omega arith)); others = λ k away. refl; spared = unspent ws }

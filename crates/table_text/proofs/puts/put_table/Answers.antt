@@ -1,4 +1,4 @@
-use Rattle.std.proofs.Common.{◌≡◌, ◌++◌, map, length, set, sym, refl, ap, ◌∙◌, subst, true≢false, arith, drop, length-append, length-drop}
+use Rattle.std.proofs.Common.{◌≡◌, ◌++◌, map, length, set, ap, ◌∙◌, subst, arith, drop, length-append, length-drop}
 use Rattle.std.specs.List.{range_with_len}
 use Rattle.std.proofs.lemmas.List.{append-nil, drop_all}
 use Rattle.std.proofs.lemmas.List.FromFn.{length-map-range_with_len}
@@ -17,15 +17,6 @@ loop-place-preserved g c =
       w.rows ∙ (λ j. set (c.loop-place.invariant.0 j) i (c.row_or_empty.ensures j)) ∙ fill_more (row_at t) u i (omega (arith, c.capacity-capacity.ensures)),
       g.H.Host.onward c.args.host.now c.loop-place.host c.write.new.self c.loop-place.invariant.1 w.held,
     )
-
-pub returns-then-not-is_within : goal.returns-then-not-is_within
-returns-then-not-is_within g c =
-    let t = c.args.table.now in
-    record {
-      rows = (refl, (λ within. true≢false (sym (c.is_within.ensures.1 (subst (Within t) (sym c.capacity-capacity.ensures) within)) ∙ c.if-not-is_within.true)), refl);
-      text = tt;
-      held = g.H.Host.still c.args.host.now;
-    }
 
 pub returns : goal.returns
 returns g c =

@@ -4,20 +4,8 @@ use Rattle.std.proofs.lemmas.List.{take_all}
 use Rattle.table_text.specs.declared.lines.Key.TheVariants.{Place}
 use Rattle.table_text.specs.Lines.{ended, order, line_text}
 use Rattle.table_text.proofs.Joins.{joined_more}
-use Rattle.table_text.proofs.Wrong.{before_at, none_left}
+use Rattle.table_text.proofs.Wrong.{before_at}
 use Rattle.table_text.proofs.reads.read_line.Goals as goal
-
-pub returns-then-next-gt254 : goal.returns-then-next-gt254
-returns-then-next-gt254 c =
-    let w = c.word_end.ensures in
-    none_left c.args.next c.args.rest.now c.word_end.result (omega arith) w.within.1 w.word w.ended
-
-pub read_word-requires : goal.read_word-requires
-read_word-requires c = record {
-  within = c.loop-key.invariant.1;
-  fits = c.loop-key.invariant.0;
-  begun = c.loop-key.invariant.2 ∙ sym (before_at c.loop-key.line c.loop-key.key-index (omega arith));
-}
 
 pub loop-key-preserved : goal.loop-key-preserved
 loop-key-preserved c =

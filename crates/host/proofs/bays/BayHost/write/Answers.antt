@@ -1,15 +1,7 @@
-use Rattle.std.proofs.Common.{◌<◌, ◌≤◌, length, sym, refl, ap, ◌∙◌, subst, arith}
-use Rattle.std.proofs.lemmas.List.{set_past}
-use Rattle.host.specs.Bays.{part, Outside, unmoved}
+use Rattle.std.proofs.Common.{◌<◌, length, sym, refl, ap, ◌∙◌, subst, arith}
+use Rattle.host.specs.Bays.{part, Outside}
 use Rattle.host.proofs.Parts.{inner, part_set, outside, write_part}
 use Rattle.host.proofs.bays.BayHost.write.Goals as goal
-
-pub overflow_add-self : goal.overflow_add-self
-overflow_add-self g c =
-    let s = c.args.self.now in
-    let t = g.H.Host.rows s.below in
-    let h : c.args.place < length (part t s.first s.count) = omega (arith, c.capacity.ensures) in
-    omega (arith, inner t s.first s.count c.args.place h, g.H.Host.small s.below)
 
 pub returns-then-place-capacity : goal.returns-then-place-capacity
 returns-then-place-capacity g c =
@@ -23,15 +15,4 @@ returns-then-place-capacity g c =
       told = write_part t s.first s.count p h c.write.result w.told;
       rows = ap (λ u. part u s.first s.count) w.rows ∙ part_set t s.first s.count p c.args.row k;
       held = (w.held, refl, refl, subst (Outside s.first s.count t) (sym w.rows) (outside t s.first s.count p c.args.row k));
-    }
-
-pub returns-else-place-capacity : goal.returns-else-place-capacity
-returns-else-place-capacity g c =
-    let s = c.args.self.now in
-    let t = g.H.Host.rows s.below in
-    let h : length (part t s.first s.count) ≤ c.args.place = omega (arith, c.capacity.ensures) in
-    record {
-      told = (h, refl);
-      rows = sym (set_past (part t s.first s.count) c.args.place c.args.row h);
-      held = (g.H.Host.still s.below, refl, refl, unmoved s.first s.count t);
     }
