@@ -28,6 +28,7 @@ struct Events(EventList);
 impl fmt::Display for Events {
     fn fmt<W: fmt::Write>(&self, f: &mut fmt::Formatter<W>) -> fmt::Result {
         f.write_str("[")?;
+        // Stays: a flag, since of a `&str` that a loop changes it would have to be proved that it is text.
         let mut first = true;
         for operation in 0..64u32 {
             let bit = 1u64 << operation;
@@ -50,6 +51,7 @@ fn write_leaf<W: fmt::Write>(f: &mut fmt::Formatter<W>, leaf: Leaf) -> fmt::Resu
     }
 }
 
+// Stays: a function and no `Display`, since it calls itself, and through `write!` such a call has no proof that it ends.
 fn write_trace<W: fmt::Write>(
     f: &mut fmt::Formatter<W>,
     leaves: Leaves,

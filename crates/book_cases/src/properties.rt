@@ -80,6 +80,7 @@ impl fmt::Display for Bound {
     }
 }
 
+// Stays: a function and no `Display`, since it calls itself, and through `write!` such a call has no proof that it ends.
 fn write_tests<W: fmt::Write>(f: &mut fmt::Formatter<W>, tests: &Tests) -> fmt::Result {
     match tests {
         Tests::Single(test) => write!(f, "{}", Part(*test)),

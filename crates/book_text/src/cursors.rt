@@ -40,6 +40,7 @@ impl<'a> Cursor<'a> {
     }
 
     /// Behind the next word, if it is this one.
+    // Stays: that the word is not empty is asked for and not kept in a type, since only literals are handed in.
     pub(crate) fn behind(self, text: &[u8]) -> Option<Self>
         requires { 0 < length text.now }
         ensures { MatchOption result (bytes_eq (slice_index_or (words_of self.entry.tokens.now) self.entry.at []) text.now ≡ false) (λ c. Behind words_of self.entry text.now c) }

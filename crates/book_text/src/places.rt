@@ -20,7 +20,7 @@ impl<'a> Place<'a> {
     ghost use Rattle.book_words.specs.Cuts.{words_of};
     ghost use Rattle.book_text.specs.Places.{Continues};
 
-    /// The same behind some words more.
+    /// The same place at another cursor.
     pub(crate) fn to(self, cursor: Cursor<'a>) -> Self
         ensures cursor { result.cursor ≡ cursor.entry }
         ensures depth { result.depth ≡ self.entry.depth }

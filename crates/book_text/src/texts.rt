@@ -30,6 +30,7 @@ pub fn read_rule_text<'a>(heap: Global, text: &'a [u8]) -> Result<Property, Read
     ensures { MatchResult result (λ x. RuleText text.now x) (λ e. Refused text.now e) }
 {
     let words = cut(heap, text)?;
+    // Stays: an error here is a word of the text, which `Stop` does not have, so no `From` makes it.
     match read_property(heap, words.tokens.as_slice()) {
         Ok(property) if words.end == text.len() => Ok(property),
         Ok(_) => Err(ReadError::Wrong(point(text, &words, words.tokens.len()))),

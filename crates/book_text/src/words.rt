@@ -20,6 +20,7 @@ pub(crate) enum Keyword {
 }
 
 /// Whether two words are one.
+// Stays: a public function, which stands; it is `==` of two words.
 pub fn is(word: &[u8], text: &[u8]) -> bool
     ensures { result ≡ bytes_eq word.now text.now }
 {
@@ -34,6 +35,7 @@ pub fn word_at<'a>(tokens: &[Token<'a>], i: usize) -> &'a [u8]
 }
 
 /// The quantifier that a word names.
+// Stays: here and below functions and no `TryFrom`, since the types are another crate's and a word that names none is no error yet.
 pub(crate) fn as_quantifier(word: &[u8]) -> Option<Quantifier>
     ensures { result ≡ quantifier_of word.now }
 {

@@ -8,6 +8,7 @@ use crate::bytes::{ByteKind, Class, byte_kind};
 use crate::tokens::{Found, Token};
 
 /// The end of the plain bytes from `at` on.
+// Stays: a text and an offset, here and below, since the offset is another in each and a struct of both would keep no fact.
 fn word_end(text: &[u8], at: usize) -> usize
     requires { at ≤ length text.now }
     ensures ahead { at ≤ result }

@@ -60,6 +60,7 @@ pub(crate) fn put_leaf(leaves: Leaves, count: u8, leaf: Leaf) -> Leaves
     }
 }
 
+// Stays: twins of those in `book_text` in shape alone, as `either` and `both` of the reader.
 pub(crate) fn both_of(heap: Global, left: Trace, right: Trace) -> Result<Trace, Stop>
     ensures { MatchResult result (λ t. shape t ≡ joined (shape left) (shape right)) (λ e. e ≡ Memory) }
 {

@@ -19,6 +19,8 @@ pub(crate) struct Reader {
     ghost some: { 1 ≤ most },
 }
 
+// Stays: twins of those in `book_text` in shape alone: a trait of both would have to name what is counted, held and promised
+// in each, every definition that the promises rest on twice.
 impl Reader {
     ghost use Rattle.std.specs.Prelude.{◌≡◌, ℕ, Bool, true, false, [], ◌∷◌, codes, MatchResult, slice_index_or};
     ghost use Rattle.std.specs.Str.{bytes_eq};

@@ -142,7 +142,7 @@ fn value_at<H: Host, S: Scale>(host: &H, property: &Property, v: u8) -> S
     ensures { result ≡ value_at S.Scale.ops (H.Host.rows host.now) property.now.inner property.now.tests v }
 {
     match property.inner {
-        // w stands for no place
+        // Stays: 255, no place, where there is no second quantifier, as the definition has it.
         None => tests_value(host, Places { v, w: NONE }, &property.tests),
         Some(binder) => quantified(
             host,

@@ -48,6 +48,7 @@ impl Model for NameBytes {
 }
 
 impl NameBytes {
+    /// The bytes of the name.
     pub fn as_slice(&self) -> &[u8]
         ensures bytes { result.now ≡ self.now }
         ensures few { length result.now ≤ 8 }
@@ -74,6 +75,7 @@ pub fn is_name(name: u64) -> bool
 }
 
 /// Whether two names are one name.
+// Stays: `==` under a name of its own, so that of two names nothing but its three laws is used.
 pub fn same_name(a: u64, b: u64) -> bool
     ensures { result ≡ same_name a b }
 {

@@ -41,6 +41,7 @@ fn follow<S: Scale>(formulas: &[Formula], event: Option<Event>, working: &[S], p
     requires { 40 * length formulas.now ≤ length parts.old }
     ensures { Stepped S.Scale.ops formulas.now (λ f. step_with S.Scale.ops f (values_in S.Scale.ops working.now f.leaves) (λ e. holds_at e event)) parts.old parts.new }
 {
+    // Stays: each part by where it begins, as in `start_all`.
     for (i, f) in formulas.iter().enumerate() {
         follow_at(f, event, working, &mut parts[40 * i..40 * i + 40]);
     }

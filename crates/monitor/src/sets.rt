@@ -20,18 +20,21 @@ pub(crate) struct LeafSet {
 }
 
 impl LeafSet {
+    /// The empty set.
     pub(crate) fn none() -> LeafSet
         ensures { set_of result.number ≡ none }
     {
         LeafSet { number: 0 }
     }
 
+    /// Whether the leaf in a slot is in the set.
     pub(crate) fn has(self, j: Slot) -> bool
         ensures { result ≡ set_of self.number j }
     {
         self.number / weight(j) % 2 == 1
     }
 
+    /// The set with the leaf in a slot.
     pub(crate) fn with(self, j: Slot) -> LeafSet
         ensures { set_of result.number ≡ with_slot j (set_of self.number) }
     {
@@ -40,6 +43,7 @@ impl LeafSet {
         }
     }
 
+    /// The set without the leaf in a slot.
     pub(crate) fn without(self, j: Slot) -> LeafSet
         ensures { set_of result.number ≡ without_slot j (set_of self.number) }
     {

@@ -9,12 +9,14 @@ use table::{check, filled_rows};
 use table_text::{WrongWord, put_table, read_table, text_of_table};
 
 // The sled's image has room for this many rows, and the radar's bay for this many of them from this place on.
+// Stays: the same numbers as in `sled_book`, with which this program shares no crate.
 const IMAGE_ROWS: usize = 64;
 
 const BAY_FIRST: u8 = 8;
 
 const BAY_ROWS: u8 = 48;
 
+// Stays: a function and no `Display`, since a wrong word may be no text, and showing it takes memory.
 fn print_wrong_word(rt: &HostRuntime, wrong: WrongWord<'_>) -> anyhow::Result<()> {
     let WrongWord {
         word,
@@ -28,7 +30,7 @@ fn print_wrong_word(rt: &HostRuntime, wrong: WrongWord<'_>) -> anyhow::Result<()
     Ok(())
 }
 
-// Stays: twin of that in `sled_book`, a few lines that print; a library of the two would hold nothing that a contract can say.
+// Stays: twin of that in `sled_book`; shared, it would be a public function of a third crate, whose promise no contract can say.
 fn print_lawfulness<H: Host>(rt: &HostRuntime, host: &H) -> anyhow::Result<()> {
     match check(host) {
         Ok(()) => println!(rt; "the table is lawful")?,
@@ -40,7 +42,7 @@ fn print_lawfulness<H: Host>(rt: &HostRuntime, host: &H) -> anyhow::Result<()> {
     Ok(())
 }
 
-// Stays: twin of that in `sled_book`, a few lines that print; a library of the two would hold nothing that a contract can say.
+// Stays: twin of that in `sled_book`; shared, it would be a public function of a third crate, whose promise no contract can say.
 fn print_table<H: Host>(rt: &HostRuntime, host: &H) -> anyhow::Result<()> {
     let text = text_of_table(rt.alloc(), host)?;
     println!(rt; "written as {} bytes:", text.len())?;

@@ -14,12 +14,14 @@ use table_text::{WrongWord, text_of_table};
 use whole_book::{TextsError, read_texts};
 
 // The sled's image has room for this many rows, and the radar's bay for this many of them from this place on.
+// Stays: the same numbers as in `sled`, with which this program shares no crate.
 const IMAGE_ROWS: usize = 64;
 
 const BAY_FIRST: u8 = 8;
 
 const BAY_ROWS: u8 = 48;
 
+// Stays: a function and no `Display`, since a wrong word may be no text, and showing it takes memory.
 fn print_wrong_word(rt: &HostRuntime, text: &str, wrong: WrongWord<'_>) -> anyhow::Result<()> {
     let word = String::from_utf8_lossy(rt.alloc(), wrong.word)?;
     println!(rt;
@@ -43,7 +45,7 @@ fn print_denial(rt: &HostRuntime, error: TextsError<'_>, capacity: u8) -> anyhow
     Ok(())
 }
 
-// Stays: twin of that in `sled`, a few lines that print; a library of the two would hold nothing that a contract can say.
+// Stays: twin of that in `sled`; shared, it would be a public function of a third crate, whose promise no contract can say.
 fn print_lawfulness<H: Host>(rt: &HostRuntime, host: &H) -> anyhow::Result<()> {
     match check(host) {
         Ok(()) => println!(rt; "the table is lawful")?,
@@ -55,7 +57,7 @@ fn print_lawfulness<H: Host>(rt: &HostRuntime, host: &H) -> anyhow::Result<()> {
     Ok(())
 }
 
-// Stays: twin of that in `sled`, a few lines that print; a library of the two would hold nothing that a contract can say.
+// Stays: twin of that in `sled`; shared, it would be a public function of a third crate, whose promise no contract can say.
 fn print_table<H: Host>(rt: &HostRuntime, host: &H) -> anyhow::Result<()> {
     let text = text_of_table(rt.alloc(), host)?;
     println!(rt; "written as {} bytes:", text.len())?;

@@ -15,6 +15,7 @@ use crate::steps::Step;
 use host::{COMPONENT, Host, NONE, PARAMETER, PROVIDED, REQUIRED, Refusal, is_name, row_at};
 
 /// Whether a place that the step names lies beyond the capacity.
+// Stays: functions of a host and a step, as `try_step` is given them; a struct of the two would be taken apart in each.
 fn is_beyond<H: Host>(host: &H, step: Step) -> bool
     ensures { Decides result (beyond (H.Host.rows host.now) step).holds }
 {

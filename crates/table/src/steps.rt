@@ -1,5 +1,5 @@
 /// A step: what it does and to which places. `at` is the place whose row is changed.
-#[derive(Clone, Copy)]
+#[derive(Clone, Copy, Debug, PartialEq, Eq)]
 pub enum Step {
     /// a stopped component without owner
     New {

@@ -12,6 +12,7 @@ use crate::words::{Span, WrongWord, word_end, wrong_word};
 use host::{COMPONENT, EMPTY, NONE, PARAMETER, PROVIDED, REQUIRED, Row, pack_name};
 use numerals::{natural_between, value_within};
 
+// Stays: a function and no `TryFrom`, since a kind is a number here and a word that names none is no error yet.
 fn kind_named(text: &[u8]) -> Option<u8>
     ensures { MatchOption result ((k : ℕ) → 0 < k → k ≤ 4 → text.now ≢ kind_text k) (λ k. (0 < k) × (k ≤ 4) × (text.now ≡ kind_text k)) }
 {
@@ -121,6 +122,7 @@ pub fn read_table<'a>(text: &'a [u8]) -> Result<[Row; 255], WrongWord<'a>>
     let mut table = [EMPTY; 255];
     let mut next = 0;
     let mut at = 0;
+    // Stays: goes on by lines as long as what was read, so no iterator knows where the next one begins.
     while at < text.len() {
         let (line, len) = read_line(&text[at..], next).map_err(|wrong| wrong_word(
             text,

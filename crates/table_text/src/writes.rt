@@ -18,6 +18,7 @@ type ValueText = ArrayVec<u8, 11>;
 /// The text of a line: nine words, none with its end longer than 18 bytes.
 type LineText = ArrayVec<u8, 162>;
 
+// The text of a value that is spelled as these bytes.
 fn short(bytes: &[u8]) -> ValueText
     requires { length bytes.now ≤ 11 }
     ensures { result.items ≡ bytes.now }
@@ -113,6 +114,7 @@ fn text_length<H: Host>(host: &H) -> usize
     sum
 }
 
+// Stays: a buffer that the caller lends, and how far it is filled, since the project writes without a heap.
 fn put_bytes(buf: &mut [u8], at: usize, bytes: &[u8]) -> usize
     requires { at + length bytes.now ≤ length buf.old }
     ensures puts { Puts buf.old at bytes.now buf.new result }

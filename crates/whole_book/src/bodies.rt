@@ -12,6 +12,7 @@ use formula_text::read_formula;
 use std::alloc::Global;
 
 /// The index behind the end of the line that goes on at an index; behind the last word where the line does not end.
+// Stays: words and an index and no cursor, since those who go on from here ask for a word at the index.
 pub(crate) fn line_end(tokens: &[Token<'_>], at: usize) -> usize
     requires { at ≤ length tokens.now }
     ensures ahead { at ≤ result }

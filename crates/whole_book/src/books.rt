@@ -13,7 +13,7 @@ use std::alloc::{AllocError, Global};
 use table_text::{WrongWord, wrong_word};
 
 /// Why a book text is not read.
-#[derive(Clone, Copy)]
+#[derive(Clone, Copy, Debug, PartialEq, Eq)]
 pub enum BookError<'a> {
     /// the first word that no book text can have there, a part of the text
     Wrong(WrongWord<'a>),
@@ -42,6 +42,7 @@ pub fn read_book<'a>(heap: Global, text: &'a [u8]) -> Result<Book, BookError<'a>
     ensures passes { TextOf IsBook text.now → Passes result }
 {
     let words = cut(heap, text)?;
+    // Stays: an error here is a word of the text, which `Stop` does not have, so no `From` makes it.
     match read_lines(heap, words.tokens.as_slice()) {
         Ok(book) if words.end == text.len() => Ok(book),
         Ok(_) => {

@@ -9,7 +9,7 @@ use std::alloc::Global;
 use table_text::{WrongWord, is_within, put_table, read_table};
 
 /// Why a table text and a book text are not read.
-#[derive(Clone, Copy)]
+#[derive(Clone, Copy, Debug, PartialEq, Eq)]
 pub enum TextsError<'a> {
     /// the first wrong word of the table text, a part of it
     Table(WrongWord<'a>),
@@ -67,7 +67,7 @@ pub fn read_texts<'a, H: Host>(
         return Err(TextsError::Beyond);
     }
     let read = read_book(heap, book)?;
-    // the rows fit, so this refuses nothing; it could for no other reason
+    // the rows fit, and a place beyond the host is all that `put_table` refuses
     put_table(&rows, host).map_err(|_| TextsError::Beyond)?;
     Ok(read)
 }

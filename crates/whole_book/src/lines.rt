@@ -52,6 +52,7 @@ fn read_line(heap: Global, listed: Listed, tokens: &[Token<'_>], at: usize) -> R
 {
     let head = head_of(listed, word_at(tokens, at)).ok_or(Stop::Wrong(at))?;
     let end = line_end(tokens, at + 1);
+    // Stays: a wrong word has another index here, so `?` alone would tell a wrong place.
     match read_body(heap, listed.properties, head, &tokens[at + 1..end]) {
         Ok(entry) => Ok(Line { entry, next: end }),
         Err(Stop::Wrong(n)) => Err(Stop::Wrong(at + 1 + n)),
@@ -79,6 +80,7 @@ pub(crate) fn read_lines(heap: Global, tokens: &[Token<'_>]) -> Result<Book, Sto
         formulas: Vec::new(heap),
     };
     let mut at = 0;
+    // Stays: goes on by lines as long as what was read, so no iterator knows where the next one begins.
     while at < tokens.len() {
         at = next_line(heap, &mut book, tokens, at)?;
     }
