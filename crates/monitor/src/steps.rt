@@ -13,6 +13,7 @@ use ftpl::formulas::{Core, Event, EventList, Formula, PerLeaf, Slot};
 use scale::Scale;
 
 // Where a formula's values stand behind the sixteen clauses of its part; those from 21 on are not used.
+// Stays: places in a slice, since a board is memory that the caller lends.
 const KEPT: usize = 16;
 
 const FRESH: usize = 17;

@@ -7,6 +7,7 @@ use case_text::text_of_line;
 use std::{env, fs};
 use table_text::{WrongWord, read_table};
 
+// Stays: shows a wrong word itself and by no `Display`, since it may be no text, and showing it takes memory.
 fn judge(rt: &HostRuntime, number: usize, text: &[u8]) -> anyhow::Result<()> {
     match read_table(text) {
         Ok(rows) => {
