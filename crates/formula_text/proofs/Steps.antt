@@ -26,6 +26,13 @@ refuted : (b : Bool) → (b ≡ true → ⊥) → b ≡ false
 refuted true h = absurd (h refl)
 refuted false h = refl
 
+-- a word that is not empty, and one that is no sign of one byte
+pub not_empty : (t : Text) → 1 ≤ length t → bytes_eq t [] ≡ false
+not_empty t h = refuted (bytes_eq t []) (λ e. omega (arith, ap length (same_true t [] e)))
+
+pub not_sign : (t : Text) (b : ℕ) → (length t ≡ 1 → get_or t 0 0 ≡ b → ⊥) → bytes_eq t (b ∷ []) ≡ false
+not_sign t b h = refuted (bytes_eq t (b ∷ [])) (λ e. let q = same_true t (b ∷ []) e in h (ap length q) (ap (λ z. get_or z 0 0) q))
+
 pub not_up_to : (n : ℕ) (t : Text) → ((k : ℕ) → 1 ≤ k → k ≤ n → t ≡ decimal k → ⊥) → is_up_to n t ≡ false
 unfolding is_up_to
 not_up_to n t h = refuted (is_up_to n t) (λ e. let r = any_to (λ i. bytes_eq t (decimal (i + 1))) n e in h (r.0 + 1) (omega arith) (omega (arith, r.1)) (same_true t (decimal (r.0 + 1)) r.2))

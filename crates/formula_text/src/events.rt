@@ -6,7 +6,7 @@ ghost use Rattle.formula_text.specs.States.{State, operation as operation_next, 
 ghost use Rattle.formula_text.specs.Took.{Lists, EventsTook, IsList, ListTook, Failed};
 
 use crate::words::{expect, rule_word};
-use book_text::{Cursor, Stop, is, natural_between};
+use book_text::{Cursor, Stop, natural_between};
 use ftpl::formulas::EventList;
 
 /// What is said of an operation in a list of events.
@@ -27,6 +27,7 @@ pub(crate) struct Events {
 }
 
 /// What a word says of an operation.
+// Stays: a function and no `TryFrom`, since a word that names none is no error yet.
 fn as_event(word: &[u8]) -> Option<EventWord>
     ensures { result ≡ event_of word.now }
 {
@@ -74,16 +75,13 @@ fn rest_of_list(list: EventList, cursor: Cursor<'_>) -> Result<Events, Stop>
     let operation = natural_between(rule_word(tokens, at), 1, 63).ok_or(Stop::Wrong(at))?;
     let word = as_event(rule_word(tokens, at + 1)).ok_or(Stop::Wrong(at + 1))?;
     let more = with_event(list, operation, word);
-    if is(rule_word(tokens, at + 2), b",") {
-        return rest_of_list(more, cursor.to(at + 3));
-    }
-    if is(rule_word(tokens, at + 2), b"]") {
-        Ok(Events {
+    match rule_word(tokens, at + 2) {
+        b"," => rest_of_list(more, cursor.to(at + 3)),
+        b"]" => Ok(Events {
             list: more,
             next: at + 3,
-        })
-    } else {
-        Err(Stop::Wrong(at + 2))
+        }),
+        _ => Err(Stop::Wrong(at + 2)),
     }
 }
 

@@ -13,6 +13,7 @@ pub(crate) enum LeafWord {
 }
 
 /// The leaf that a word begins.
+// Stays: a function and no `TryFrom`, since a word that names none is no error yet.
 pub(crate) fn as_leaf(word: &[u8]) -> Option<LeafWord>
     ensures { result ≡ leaf_word_of word.now }
 {

@@ -7,7 +7,7 @@ ghost use Rattle.formula_text.specs.Wrong.{Stopped, Front};
 
 use crate::readers::Reader;
 use crate::words::rule_word;
-use book_text::{Cursor, Stop, is, word_at};
+use book_text::{Cursor, Stop, word_at};
 use book_words::Token;
 use ftpl::formulas::Formula;
 use std::alloc::Global;
@@ -26,16 +26,11 @@ fn line_start(words: &[Token<'_>]) -> Result<usize, Stop>
     if !has_front(word_at(words, 0)) {
         return Err(Stop::Wrong(0));
     }
-    if is(rule_word(words, 0), b"(") {
-        return Err(Stop::Wrong(0));
-    }
-    if !is(rule_word(words, 0), b"") {
-        return Ok(0);
-    }
-    if is(rule_word(words, 1), b"(") {
-        Ok(1)
-    } else {
-        Err(Stop::Wrong(1))
+    match (rule_word(words, 0), rule_word(words, 1)) {
+        (b"(", _) => Err(Stop::Wrong(0)),
+        (b"", b"(") => Ok(1),
+        (b"", _) => Err(Stop::Wrong(1)),
+        _ => Ok(0),
     }
 }
 

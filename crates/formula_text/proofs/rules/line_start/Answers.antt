@@ -1,8 +1,8 @@
-use Rattle.std.proofs.Common.{[], get_or, take, codes, sym, ap, ◌∙◌}
+use Rattle.std.proofs.Common.{◌<◌, ◌≤◌, [], length, take, codes, sym, ap, ◌∙◌, arith, rules}
 use Rattle.std.specs.Str.{bytes_eq}
+use Rattle.std.proofs.lemmas.Slice.Eq.{text_from_reads}
 use Rattle.book_words.specs.Cuts.{words_of}
-use Rattle.book_text.proofs.Lexical.{same_true}
-use Rattle.formula_text.specs.Words.{unfronted}
+use Rattle.formula_text.proofs.Steps.{not_empty, not_sign}
 use Rattle.formula_text.proofs.Opened.{no_front, front_group, front_first, front_second, no_group}
 use Rattle.formula_text.proofs.rules.line_start.Goals as goal
 
@@ -12,26 +12,47 @@ returns-then-not-has_front c = λ n m.
     let f = ap (λ z. bytes_eq (take 5 z) (codes "rule=")) (sym c.word_at.ensures) ∙ sym c.if-not-has_front.ensures in
     no_front n s m f
 
-pub returns-then-is : goal.returns-then-is
-returns-then-is c = λ n m.
+pub returns-in-40-default : goal.returns-in-40-default
+returns-in-40-default c = λ n m.
     let s = words_of c.args.words.now in
     let f = ap (λ z. bytes_eq (take 5 z) (codes "rule=")) (sym c.word_at.ensures) ∙ sym c.if-not-has_front.ensures in
-    front_group n s m f (same_true (get_or (unfronted s) 0 []) (codes "(") (ap (λ z. bytes_eq z (codes "(")) (sym c.rule_word.ensures) ∙ sym c.if-is.ensures))
+    front_group n s m f (sym c.rule_word.ensures ∙ text_from_reads c.rule_word.result.now (codes "(") (omega arith) (search rules))
 
-pub returns-then-not-is : goal.returns-then-not-is
-returns-then-not-is c = λ n m.
+pub returns-in-empty-eq40 : goal.returns-in-empty-eq40
+returns-in-empty-eq40 c = λ n m.
     let s = words_of c.args.words.now in
     let f = ap (λ z. bytes_eq (take 5 z) (codes "rule=")) (sym c.word_at.ensures) ∙ sym c.if-not-has_front.ensures in
-    front_first s f (ap (λ z. bytes_eq z (codes "(")) (sym c.rule_word.ensures) ∙ sym c.if-is.ensures) (ap (λ z. bytes_eq z []) (sym c.rule_word-2.ensures) ∙ sym c.if-not-is.ensures)
+    let w = c.rule_word-2.result.now in
+    let a : 1 ≤ length w = search rules in
+    let b : length w < 2 = search rules in
+    front_second s f (sym c.rule_word.ensures ∙ text_from_reads c.rule_word.result.now [] (search rules) tt) (sym c.rule_word-2.ensures ∙ text_from_reads w (codes "(") (omega arith) (search rules))
 
-pub returns-then-is-2 : goal.returns-then-is-2
-returns-then-is-2 c = λ n m.
+pub returns-in-empty-default : goal.returns-in-empty-default
+returns-in-empty-default c = λ n m.
     let s = words_of c.args.words.now in
     let f = ap (λ z. bytes_eq (take 5 z) (codes "rule=")) (sym c.word_at.ensures) ∙ sym c.if-not-has_front.ensures in
-    front_second s f (same_true (get_or (unfronted s) 0 []) [] (ap (λ z. bytes_eq z []) (sym c.rule_word-2.ensures) ∙ sym c.if-not-is.ensures)) (same_true (get_or (unfronted s) 1 []) (codes "(") (ap (λ z. bytes_eq z (codes "(")) (sym c.rule_word-3.ensures) ∙ sym c.if-is-2.ensures))
+    no_group n s m f (sym c.rule_word.ensures ∙ text_from_reads c.rule_word.result.now [] (search rules) tt) (ap (λ z. bytes_eq z (codes "(")) (sym c.rule_word-2.ensures) ∙ not_sign c.rule_word-2.result.now 40 (λ l h. search rules))
 
-pub returns-else-is-2 : goal.returns-else-is-2
-returns-else-is-2 c = λ n m.
+pub returns-in-empty-default-2 : goal.returns-in-empty-default-2
+returns-in-empty-default-2 c = λ n m.
     let s = words_of c.args.words.now in
     let f = ap (λ z. bytes_eq (take 5 z) (codes "rule=")) (sym c.word_at.ensures) ∙ sym c.if-not-has_front.ensures in
-    no_group n s m f (same_true (get_or (unfronted s) 0 []) [] (ap (λ z. bytes_eq z []) (sym c.rule_word-2.ensures) ∙ sym c.if-not-is.ensures)) (ap (λ z. bytes_eq z (codes "(")) (sym c.rule_word-3.ensures) ∙ sym c.if-is-2.ensures)
+    no_group n s m f (sym c.rule_word.ensures ∙ text_from_reads c.rule_word.result.now [] (search rules) tt) (ap (λ z. bytes_eq z (codes "(")) (sym c.rule_word-2.ensures) ∙ not_sign c.rule_word-2.result.now 40 (λ l h. search rules))
+
+pub returns-in-empty-default-3 : goal.returns-in-empty-default-3
+returns-in-empty-default-3 c = λ n m.
+    let s = words_of c.args.words.now in
+    let f = ap (λ z. bytes_eq (take 5 z) (codes "rule=")) (sym c.word_at.ensures) ∙ sym c.if-not-has_front.ensures in
+    no_group n s m f (sym c.rule_word.ensures ∙ text_from_reads c.rule_word.result.now [] (search rules) tt) (ap (λ z. bytes_eq z (codes "(")) (sym c.rule_word-2.ensures) ∙ not_sign c.rule_word-2.result.now 40 (λ l h. search rules))
+
+pub returns-in_default : goal.returns-in_default
+returns-in_default c = λ n m.
+    let s = words_of c.args.words.now in
+    let f = ap (λ z. bytes_eq (take 5 z) (codes "rule=")) (sym c.word_at.ensures) ∙ sym c.if-not-has_front.ensures in
+    front_first s f (ap (λ z. bytes_eq z (codes "(")) (sym c.rule_word.ensures) ∙ not_sign c.rule_word.result.now 40 (λ l h. search rules)) (ap (λ z. bytes_eq z []) (sym c.rule_word.ensures) ∙ not_empty c.rule_word.result.now (omega arith))
+
+pub returns-in_default-2 : goal.returns-in_default-2
+returns-in_default-2 c = λ n m.
+    let s = words_of c.args.words.now in
+    let f = ap (λ z. bytes_eq (take 5 z) (codes "rule=")) (sym c.word_at.ensures) ∙ sym c.if-not-has_front.ensures in
+    front_first s f (ap (λ z. bytes_eq z (codes "(")) (sym c.rule_word.ensures) ∙ not_sign c.rule_word.result.now 40 (λ l h. search rules)) (ap (λ z. bytes_eq z []) (sym c.rule_word.ensures) ∙ not_empty c.rule_word.result.now (omega arith))
