@@ -21,6 +21,7 @@ const LEN: u64 = 0x6c65_6e00_0000_0000;
 
 const BUF: u64 = 0x6275_6600_0000_0000;
 
+// Stays: rows made up as in the tests of `ftpl`, with other numbers; a library of them would only serve tests.
 fn component(name: u64) -> Row {
     Row {
         kind: COMPONENT,
