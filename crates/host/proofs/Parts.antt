@@ -7,7 +7,7 @@ use Rattle.host.specs.Tables.{Writes}
 use Rattle.host.specs.Bays.{part, Outside}
 
 module _ (t : List Row) (f n : ℕ) where
-  length_part : length (part t f n) ≡ min n (length t - f)
+  pub length_part : length (part t f n) ≡ min n (length t - f)
   length_part = length-take n (drop f t) ∙ ap (min n) (length-drop f t)
 
   pub inner : (p : ℕ) → p < length (part t f n) → (p < n) × (f + p < length t)

@@ -35,8 +35,8 @@ fn first_zero(bytes: &[u8]) -> Option<usize>
     bytes.iter().position(|b| *b == 0)
 }
 
-/// How 64 bits are written as a name: the bytes up to the first zero byte.
-#[derive(Drop)]
+/// How 64 bits are written as a name: the bytes up to the first zero byte of eight.
+#[derive(Clone, Copy, PartialEq, Eq, Debug)]
 pub struct NameBytes {
     eight: [u8; 8],
 }
@@ -44,23 +44,28 @@ pub struct NameBytes {
 impl Model for NameBytes {
     ghost Value = { List ℕ };
 
-    ghost view = { λ n. up_to_zero n.eight };
+    ghost view = { λ n. n.eight };
+
+    ghost inverse = { λ bs. record { eight = bs } };
 }
 
 impl NameBytes {
     /// The bytes of the name.
     pub fn as_slice(&self) -> &[u8]
-        ensures bytes { result.now ≡ self.now }
+        ensures bytes { result.now ≡ up_to_zero self.now }
         ensures few { length result.now ≤ 8 }
     {
-        let len = first_zero(&self.eight).unwrap_or(self.eight.len());
-        &self.eight[..len]
+        match first_zero(&self.eight) {
+            Some(len) => &self.eight[..len],
+            None => &self.eight,
+        }
     }
 }
 
 /// How 64 bits are written as a name.
 pub fn unpack_name(name: u64) -> NameBytes
-    ensures { result ≡ name_bytes name }
+    ensures few { length result ≡ 8 }
+    ensures part { up_to_zero result ≡ name_bytes name }
 {
     NameBytes {
         eight: name.to_be_bytes(),
@@ -68,10 +73,14 @@ pub fn unpack_name(name: u64) -> NameBytes
 }
 
 /// Whether 64 bits hold a name.
+// Stays: a match and no `== Some(name)`, since a wrong comparison is then refused for what it answers, not for the form of the proof.
 pub fn is_name(name: u64) -> bool
     ensures { Decides result (IsName name) }
 {
-    pack_name(unpack_name(name).as_slice()) == Some(name)
+    match pack_name(unpack_name(name).as_slice()) {
+        Some(packed) => packed == name,
+        None => false,
+    }
 }
 
 /// Whether two names are one name.

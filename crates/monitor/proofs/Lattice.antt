@@ -31,6 +31,9 @@ module _ {V : Type 0} {s : Ops V} (p : Laws s) where
   pub both_cross : (a b c d : V) → s.both (s.both a b) (s.both c d) ≡ s.both (s.both a c) (s.both b d)
   both_cross a b c d = cc (p.both_assoc a b (s.both c d), p.both_assoc b c d, p.both_comm b c, p.both_assoc c b d, p.both_assoc a c (s.both b d))
 
+  pub either_cross : (a b c d : V) → s.either (s.either a b) (s.either c d) ≡ s.either (s.either a c) (s.either b d)
+  either_cross a b c d = cc (either_assoc a b (s.either c d), either_assoc b c d, p.either_comm b c, either_assoc c b d, either_assoc a c (s.either b d))
+
   -- the last two of three, exchanged
   pub either_swap : (a b c : V) → s.either (s.either a b) c ≡ s.either (s.either a c) b
   either_swap a b c = cc (either_assoc a b c, p.either_comm b c, either_assoc a c b)

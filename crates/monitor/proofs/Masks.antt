@@ -31,7 +31,7 @@ with_all Second = refl
 with_all Third = refl
 with_all Fourth = refl
 
-mask_with : (j : Slot) (k : ℕ) → k < 16 → mask (with j (set_of k)) ≡ bit_or k (weight j)
+pub mask_with : (j : Slot) (k : ℕ) → k < 16 → mask (with j (set_of k)) ≡ bit_or k (weight j)
 unfolding with_test
 mask_with j k h = eqb-true (mask (with j (set_of k))) (bit_or k (weight j)) (check 16 (with_test j) (with_all j) k h)
 
@@ -45,7 +45,7 @@ without_all Second = refl
 without_all Third = refl
 without_all Fourth = refl
 
-mask_without : (j : Slot) (k : ℕ) → k < 16 → mask (without j (set_of k)) ≡ bit_and k (18446744073709551615 - weight j)
+pub mask_without : (j : Slot) (k : ℕ) → k < 16 → mask (without j (set_of k)) ≡ bit_and k (18446744073709551615 - weight j)
 unfolding without_test
 mask_without j k h = eqb-true (mask (without j (set_of k))) (bit_and k (18446744073709551615 - weight j)) (check 16 (without_test j) (without_all j) k h)
 
@@ -104,3 +104,7 @@ set_without j k h = ap set_of (sym (mask_without j k h)) ∙ set_of_mask (withou
 -- sixteen values that are right at each of the sixteen numbers
 pub filled : {V : Type 0} (s : Ops V) (r : List V) (f : Set → V) → ((k : ℕ) → k < 16 → get_or r k s.top ≡ f (set_of k)) → clauses s r ≡ f
 filled s r f h = fun_ext (λ c. h (mask c) (mask_small c) ∙ ap f (set_of_mask c))
+
+-- and a list read there
+pub clauses_at : {V : Type 0} (s : Ops V) (w : List V) (k : ℕ) → k < 16 → clauses s w (set_of k) ≡ get_or w k s.top
+clauses_at s w k h = ap (λ i. get_or w i s.top) (mask_set_of k h)

@@ -6,7 +6,7 @@ use anyhow::{anyhow, bail};
 use host::{Bay, Host, Packed, Refusal, Row};
 use std::{env, fs};
 use table::{check, filled_rows};
-use table_text::{WrongWord, put_table, read_table, text_of_table};
+use table_text::{WrongWord, put_table, read_table, write_table};
 
 // The sled's image has room for this many rows, and the radar's bay for this many of them from this place on.
 // Stays: the same numbers as in `sled_book`, with which this program shares no crate.
@@ -15,6 +15,9 @@ const IMAGE_ROWS: usize = 64;
 const BAY_FIRST: u8 = 8;
 
 const BAY_ROWS: u8 = 48;
+
+// The bytes of the longest line of a table text.
+const LINE_BYTES: usize = 162;
 
 // Stays: a function and no `Display`, since a wrong word may be no text, and showing it takes memory.
 fn print_wrong_word(rt: &HostRuntime, wrong: WrongWord<'_>) -> anyhow::Result<()> {
@@ -44,10 +47,19 @@ fn print_lawfulness<H: Host>(rt: &HostRuntime, host: &H) -> anyhow::Result<()> {
 
 // Stays: twin of that in `sled_book`; shared, it would be a public function of a third crate, whose promise no contract can say.
 fn print_table<H: Host>(rt: &HostRuntime, host: &H) -> anyhow::Result<()> {
-    let text = text_of_table(rt.alloc(), host)?;
-    println!(rt; "written as {} bytes:", text.len())?;
-    let text = String::from_utf8_lossy(rt.alloc(), &text)?;
-    print!(rt; "{text}")?;
+    let room = LINE_BYTES * usize::from(host.capacity());
+    let mut text = vec![in rt.alloc(); 0u8; room]?;
+    match write_table(host, &mut text) {
+        Ok(len) => {
+            println!(rt; "written as {len} bytes:")?;
+            let text = String::from_utf8_lossy(rt.alloc(), &text[..len])?;
+            print!(rt; "{text}")?;
+        }
+        Err(refusal) => {
+            let number = refusal.number();
+            println!(rt; "refused by {number}: the text does not fit the buffer")?;
+        }
+    }
     Ok(())
 }
 

@@ -1,4 +1,4 @@
-ghost use Rattle.std.specs.Prelude.{◌≡◌, ◌+◌, ◌≤◌, ◌++◌, length, drop, IfOk};
+ghost use Rattle.std.specs.Prelude.{◌≡◌, ◌+◌, ◌*◌, ◌≤◌, ◌++◌, ◌⊎◌, length, drop, Decides, IfOk};
 ghost use Rattle.host.specs.Names.{name_bytes};
 ghost use Rattle.arrayvec.specs.ArrayVec.{array_vec_len};
 ghost use Rattle.table_text.specs.Lines.{kind_text, place_text, value_text, ended, line_text, row_text, text_of_table};
@@ -125,12 +125,19 @@ fn put_bytes(buf: &mut [u8], at: usize, bytes: &[u8]) -> usize
     end
 }
 
+// Whether the text of a host's rows fits so many bytes: where there is room for a longest line at each place, it fits unspelled.
+fn fits<H: Host>(host: &H, room: usize) -> bool
+    ensures { Decides result ((162 * length (H.Host.rows host.now) ≤ room) ⊎ (length (text_of_table (H.Host.rows host.now)) ≤ room)) }
+{
+    room >= 162 * usize::from(host.capacity()) || text_length(host) <= room
+}
+
 /// Writes the rows of a host as table text into a buffer, and answers the text's length; bytes behind it stay.
 /// A buffer that is too small is left as it was.
 pub fn write_table<H: Host>(host: &H, buf: &mut [u8]) -> Result<usize, Refusal>
     ensures { Writes (text_of_table (H.Host.rows host.now)) buf.old result buf.new }
 {
-    if text_length(host) > buf.len() {
+    if !fits(host, buf.len()) {
         return Err(Refusal::TooSmall);
     }
     let mut at = 0;

@@ -63,7 +63,7 @@ module _ (ts : List Token) (a : ℕ) where
       word_behind n d h ∙ f d
 
 -- the last number is the one before the end
-last_is : (l : ℕ) (ns : List ℕ) (d : ℕ) → 0 < length ns → last_from l ns ≡ get_or ns (length ns - 1) d
+pub last_is : (l : ℕ) (ns : List ℕ) (d : ℕ) → 0 < length ns → last_from l ns ≡ get_or ns (length ns - 1) d
 last_is l [] d h = absurd (omega arith)
 last_is l (n ∷ []) d h = refl
 last_is l (n ∷ m ∷ ns) d h =

@@ -1,4 +1,4 @@
-use Rattle.std.proofs.Common.{option_map, unwrap_or, sym, ap, ◌∙◌}
+use Rattle.std.proofs.Common.{option_map, unwrap_or, sym, ap, ◌∙◌, rules}
 use Rattle.std.specs.Option.{option_copied}
 use Rattle.ftpl.specs.Properties.{property_value}
 use Rattle.ftpl.proofs.Numbered.{numbered_listed}
@@ -10,7 +10,7 @@ returns-in-Some g c =
     let t = g.H.Host.rows c.args.host.now in
     c.property_value.ensures
     ∙ sym (ap (λ r. unwrap_or (option_map (property_value s t) (option_copied r)) s.bottom) c.in-Some.is)
-    ∙ numbered_listed s t c.args.properties.now c.min.result c.args.number _ c.min.ensures c.numbered.ensures
+    ∙ numbered_listed s t c.args.properties.now c.min.result c.args.number _ (search rules) c.numbered.ensures
 
 pub returns-in-None : goal.returns-in-None
 returns-in-None g c =
@@ -18,4 +18,4 @@ returns-in-None g c =
     let t = g.H.Host.rows c.args.host.now in
     c.bottom.ensures
     ∙ sym (ap (λ r. unwrap_or (option_map (property_value s t) (option_copied r)) s.bottom) c.in-None.is)
-    ∙ numbered_listed s t c.args.properties.now c.min.result c.args.number _ c.min.ensures c.numbered.ensures
+    ∙ numbered_listed s t c.args.properties.now c.min.result c.args.number _ (search rules) c.numbered.ensures
