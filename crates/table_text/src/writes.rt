@@ -12,62 +12,67 @@ use host::{
 use itoa::{Buffer, Integer};
 use std::alloc::{AllocError, Global};
 
-/// The text of a value: a name, a number or a word of ours.
-type ValueText = ArrayVec<u8, 11>;
-
 /// The text of a line: nine words, none with its end longer than 18 bytes.
 type LineText = ArrayVec<u8, 162>;
 
-// The text of a value that is spelled as these bytes.
-fn short(bytes: &[u8]) -> ValueText
-    requires { length bytes.now ≤ 11 }
-    ensures { result.items ≡ bytes.now }
+// Appends bytes for which there is room.
+fn push_bytes(text: &mut LineText, bytes: &[u8])
+    requires { array_vec_len text.old + length bytes.now ≤ 162 }
+    ensures { text.new.items ≡ text.old.items ++ bytes.now }
 {
-    ValueText::try_from(bytes).unwrap()
+    text.try_extend_from_slice(bytes).unwrap();
 }
 
-fn decimal<I: Integer>(n: I) -> ValueText
-    requires { I.MAX_STR_LEN ≤ 11 }
-    ensures { result.items ≡ I.text n }
+fn push_decimal<I: Integer>(text: &mut LineText, n: I)
+    requires few { I.MAX_STR_LEN ≤ 11 }
+    requires room { array_vec_len text.old + 11 ≤ 162 }
+    ensures text { text.new.items ≡ text.old.items ++ I.text n }
+    ensures bound { array_vec_len text.new ≤ array_vec_len text.old + 11 }
 {
-    short(Buffer::new().format(n).as_bytes())
+    push_bytes(text, Buffer::new().format(n).as_bytes());
 }
 
-fn kind_text(kind: u8) -> ValueText
-    ensures { result.items ≡ kind_text kind }
+fn push_kind(text: &mut LineText, kind: u8)
+    requires { array_vec_len text.old + 11 ≤ 162 }
+    ensures text { text.new.items ≡ text.old.items ++ kind_text kind }
+    ensures bound { array_vec_len text.new ≤ array_vec_len text.old + 11 }
 {
     match kind {
-        COMPONENT => short(b"comp"),
-        PROVIDED => short(b"prov"),
-        REQUIRED => short(b"req"),
-        PARAMETER => short(b"par"),
-        _ => decimal(kind),
+        COMPONENT => push_bytes(text, b"comp"),
+        PROVIDED => push_bytes(text, b"prov"),
+        REQUIRED => push_bytes(text, b"req"),
+        PARAMETER => push_bytes(text, b"par"),
+        _ => push_decimal(text, kind),
     }
 }
 
 // An owner or a link.
-fn place_text(place: u8) -> ValueText
-    ensures { result.items ≡ place_text place }
+fn push_place(text: &mut LineText, place: u8)
+    requires { array_vec_len text.old + 11 ≤ 162 }
+    ensures text { text.new.items ≡ text.old.items ++ place_text place }
+    ensures bound { array_vec_len text.new ≤ array_vec_len text.old + 11 }
 {
     match place {
-        NONE => short(b"none"),
-        _ => decimal(place),
+        NONE => push_bytes(text, b"none"),
+        _ => push_decimal(text, place),
     }
 }
 
-fn value_text(line: Line, key: Key) -> ValueText
-    ensures { result.items ≡ value_text key line }
+fn push_value(text: &mut LineText, line: Line, key: Key)
+    requires { array_vec_len text.old + 11 ≤ 162 }
+    ensures text { text.new.items ≡ text.old.items ++ value_text key line }
+    ensures bound { array_vec_len text.new ≤ array_vec_len text.old + 11 }
 {
     match key {
-        Key::Place => decimal(line.place),
-        Key::Kind => kind_text(line.row.kind),
-        Key::Name => short(unpack_name(line.row.name).as_slice()),
-        Key::Owner => place_text(line.row.owner),
-        Key::Link => place_text(line.row.link),
-        Key::Up => decimal(line.row.up),
-        Key::Lo => decimal(line.row.lo),
-        Key::Hi => decimal(line.row.hi),
-        Key::Value => decimal(line.row.value),
+        Key::Place => push_decimal(text, line.place),
+        Key::Kind => push_kind(text, line.row.kind),
+        Key::Name => push_bytes(text, unpack_name(line.row.name).as_slice()),
+        Key::Owner => push_place(text, line.row.owner),
+        Key::Link => push_place(text, line.row.link),
+        Key::Up => push_decimal(text, line.row.up),
+        Key::Lo => push_decimal(text, line.row.lo),
+        Key::Hi => push_decimal(text, line.row.hi),
+        Key::Value => push_decimal(text, line.row.value),
     }
 }
 
@@ -78,8 +83,8 @@ fn push_word(text: &mut LineText, line: Line, key: Key)
     ensures text { text.new.items ≡ text.old.items ++ ended line key }
     ensures bound { array_vec_len text.new ≤ array_vec_len text.old + 18 }
 {
-    text.try_extend_from_slice(key.text()).unwrap();
-    text.try_extend_from_slice(&value_text(line, key)).unwrap();
+    push_bytes(text, key.text());
+    push_value(text, line, key);
     text.push(key.ending());
 }
 
