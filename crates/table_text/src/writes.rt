@@ -23,6 +23,7 @@ fn push_bytes(text: &mut LineText, bytes: &[u8])
     text.try_extend_from_slice(bytes).unwrap();
 }
 
+// Stays: room is asked for here and below and kept by no type, since each value takes some of it.
 fn push_decimal<I: Integer>(text: &mut LineText, n: I)
     requires few { I.MAX_STR_LEN ≤ 11 }
     requires room { array_vec_len text.old + 11 ≤ 162 }
