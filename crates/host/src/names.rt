@@ -36,7 +36,7 @@ fn first_zero(bytes: &[u8]) -> Option<usize>
 }
 
 /// How 64 bits are written as a name: the bytes up to the first zero byte of eight.
-#[derive(Clone, Copy, PartialEq, Eq, Debug)]
+#[derive(Clone, Copy, PartialEq, Eq, PartialOrd, Ord, Hash, Debug)]
 pub struct NameBytes {
     eight: [u8; 8],
 }
@@ -50,6 +50,13 @@ impl Model for NameBytes {
 }
 
 impl NameBytes {
+    /// All eight bytes, those behind the name too.
+    pub fn eight(self) -> [u8; 8]
+        ensures { result ≡ self }
+    {
+        self.eight
+    }
+
     /// The bytes of the name.
     pub fn as_slice(&self) -> &[u8]
         ensures bytes { result.now ≡ up_to_zero self.now }

@@ -16,7 +16,7 @@ const BAY_FIRST: u8 = 8;
 
 const BAY_ROWS: u8 = 48;
 
-// The bytes of the longest line of a table text.
+// No line of a table text has more bytes.
 const LINE_BYTES: usize = 162;
 
 // Stays: a function and no `Display`, since a wrong word may be no text, and showing it takes memory.
@@ -47,6 +47,7 @@ fn print_lawfulness<H: Host>(rt: &HostRuntime, host: &H) -> anyhow::Result<()> {
 
 // Stays: twin of that in `sled_book`; shared, it would be a public function of a third crate, whose promise no contract can say.
 fn print_table<H: Host>(rt: &HostRuntime, host: &H) -> anyhow::Result<()> {
+    // Stays: a buffer that is lent, since the contract of `write_table` says just when it refuses, and that of `text_of_table` does not.
     let room = LINE_BYTES * usize::from(host.capacity());
     let mut text = vec![in rt.alloc(); 0u8; room]?;
     match write_table(host, &mut text) {

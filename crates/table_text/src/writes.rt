@@ -131,7 +131,7 @@ fn put_bytes(buf: &mut [u8], at: usize, bytes: &[u8]) -> usize
     end
 }
 
-// Whether the text of a host's rows fits so many bytes: where there is room for a longest line at each place, it fits unspelled.
+// Whether the text of a host's rows fits so many bytes: where there is room for 162 bytes at each place, it fits unspelled.
 fn fits<H: Host>(host: &H, room: usize) -> bool
     ensures { Decides result ((162 * length (H.Host.rows host.now) ≤ room) ⊎ (length (text_of_table (H.Host.rows host.now)) ≤ room)) }
 {
