@@ -1,6 +1,6 @@
 ghost use Rattle.std.specs.Prelude.{◌≡◌, ℕ, ◌≤◌, true, List, length, ◌==◌, MatchOption, Decides};
 ghost use Rattle.std.specs.List.{AllByRecursion, position};
-ghost use Rattle.host.specs.Names.{letter_or_digit, NameForm, IsName, packed, up_to_zero, name_bytes, same_name};
+ghost use Rattle.host.specs.Names.{letter_or_digit, NameForm, IsName, packed, bytes_of, up_to_zero, name_bytes, same_name};
 
 use std::marker::Model;
 
@@ -71,6 +71,7 @@ impl NameBytes {
 
 /// How 64 bits are written as a name.
 pub fn unpack_name(name: u64) -> NameBytes
+    ensures all { result ≡ bytes_of name }
     ensures few { length result ≡ 8 }
     ensures part { up_to_zero result ≡ name_bytes name }
 {

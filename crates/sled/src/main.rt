@@ -6,7 +6,7 @@ use anyhow::{anyhow, bail};
 use host::{Bay, Host, Packed, Refusal, Row};
 use std::{env, fs};
 use table::{check, filled_rows};
-use table_text::{WrongWord, put_table, read_table, write_table};
+use table_text::{LINE_BYTES, WrongWord, put_table, read_table, write_table};
 
 // The sled's image has room for this many rows, and the radar's bay for this many of them from this place on.
 // Stays: the same numbers as in `sled_book`, with which this program shares no crate.
@@ -15,9 +15,6 @@ const IMAGE_ROWS: usize = 64;
 const BAY_FIRST: u8 = 8;
 
 const BAY_ROWS: u8 = 48;
-
-// No line of a table text has more bytes.
-const LINE_BYTES: usize = 162;
 
 // Stays: a function and no `Display`, since a wrong word may be no text, and showing it takes memory.
 fn print_wrong_word(rt: &HostRuntime, wrong: WrongWord<'_>) -> anyhow::Result<()> {

@@ -10,7 +10,7 @@ use host::{Bay, Host, Packed, Refusal};
 use scale::{Beside, Distance};
 use std::{env, fs};
 use table::{check, filled_rows};
-use table_text::{WrongWord, write_table};
+use table_text::{LINE_BYTES, WrongWord, write_table};
 use whole_book::{TextsError, read_texts};
 
 // The sled's image has room for this many rows, and the radar's bay for this many of them from this place on.
@@ -20,9 +20,6 @@ const IMAGE_ROWS: usize = 64;
 const BAY_FIRST: u8 = 8;
 
 const BAY_ROWS: u8 = 48;
-
-// No line of a table text has more bytes.
-const LINE_BYTES: usize = 162;
 
 // Stays: a function and no `Display`, since a wrong word may be no text, and showing it takes memory.
 fn print_wrong_word(rt: &HostRuntime, text: &str, wrong: WrongWord<'_>) -> anyhow::Result<()> {

@@ -12,4 +12,4 @@ pub use numerals::{natural_between, value_within};
 pub use puts::{is_within, put_table};
 pub use reads::read_table;
 pub use words::{WrongWord, wrong_word};
-pub use writes::{text_of_table, write_table};
+pub use writes::{LINE_BYTES, text_of_table, write_table};

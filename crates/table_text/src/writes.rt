@@ -12,7 +12,10 @@ use host::{
 use itoa::{Buffer, Integer};
 use std::alloc::{AllocError, Global};
 
-/// The text of a line: nine words, none with its end longer than 18 bytes.
+/// No line of a table text has more bytes: nine words, none with its end longer than 18.
+pub const LINE_BYTES: usize = 162;
+
+/// The text of a line.
 type LineText = ArrayVec<u8, 162>;
 
 // Appends bytes for which there is room.
@@ -135,7 +138,7 @@ fn put_bytes(buf: &mut [u8], at: usize, bytes: &[u8]) -> usize
 fn fits<H: Host>(host: &H, room: usize) -> bool
     ensures { Decides result ((162 * length (H.Host.rows host.now) ≤ room) ⊎ (length (text_of_table (H.Host.rows host.now)) ≤ room)) }
 {
-    room >= 162 * usize::from(host.capacity()) || text_length(host) <= room
+    room >= LINE_BYTES * usize::from(host.capacity()) || text_length(host) <= room
 }
 
 /// Writes the rows of a host as table text into a buffer, and answers the text's length; bytes behind it stay.
